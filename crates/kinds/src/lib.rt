@@ -1,0 +1,2 @@
+// Token kinds, what is asked about a kind, and tokens.
+pub mod kind;

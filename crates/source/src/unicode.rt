@@ -1,0 +1,54 @@
+// White space and line terminators by their characters, and the character at a place of a text.
+ghost use mathlib.Core.Path.{_≡_};
+ghost use mathlib.Core.List.{_++_};
+ghost use Prim.Native.Nat.{_+_};
+ghost use lib.ListN.{length, drop};
+ghost use lib.Utf8.{encode};
+ghost use Rattle.std.specs.Options.{Cases};
+ghost use Rattle.std.specs.Text.{width};
+ghost use Rattle.std.specs.Words.{Boundary};
+ghost use Rattle.source.specs.Unicode.{irregularWhitespace, irregularLineTerminator, lineTerminator};
+
+pub const LF: char = '\u{000A}';
+pub const CR: char = '\u{000D}';
+pub const LS: char = '\u{2028}';
+pub const PS: char = '\u{2029}';
+
+// The white space besides space and tab.
+pub fn is_irregular_whitespace(c: char) -> bool
+    ensures { λ r. ⌜ r ≡ irregularWhitespace c ⌝ }
+{
+    matches!(
+        c,
+        '\u{000B}'
+            | '\u{000C}'
+            | '\u{00A0}'
+            | '\u{1680}'
+            | '\u{2000}'..='\u{200A}'
+            | '\u{202F}'
+            | '\u{205F}'
+            | '\u{3000}'
+            | '\u{FEFF}'
+    )
+}
+
+// The line terminators that are no control characters.
+pub fn is_irregular_line_terminator(c: char) -> bool
+    ensures { λ r. ⌜ r ≡ irregularLineTerminator c ⌝ }
+{
+    c == LS || c == PS
+}
+
+pub fn is_line_terminator(c: char) -> bool
+    ensures { λ r. ⌜ r ≡ lineTerminator c ⌝ }
+{
+    c == LF || c == CR || is_irregular_line_terminator(c)
+}
+
+// The character whose first byte is at a place, or none at the end of the text.
+pub(crate) fn char_at(text: &str, at: usize) -> Option<char>
+    requires { ⌜ Boundary (now text) at ⌝ }
+    ensures { λ r. ⌜ Cases r (at ≡ length (now (text .entry))) (λ c. drop at (now (text .entry)) ≡ encode c ++ drop (at + width c) (now (text .entry))) ⌝ }
+{
+    text[at..].chars().next()
+}
