@@ -1,13 +1,7 @@
 // White space and line terminators by their characters, and the character at a place of a text.
 ghost use mathlib.Core.Path.{_≡_};
-ghost use mathlib.Core.List.{_++_};
-ghost use Prim.Native.Nat.{_+_};
-ghost use lib.ListN.{length, drop};
-ghost use lib.Utf8.{encode};
-ghost use Rattle.std.specs.Options.{Cases};
-ghost use Rattle.std.specs.Text.{width};
 ghost use Rattle.std.specs.Words.{Boundary};
-ghost use Rattle.source.specs.Unicode.{irregularWhitespace, irregularLineTerminator, lineTerminator};
+ghost use Rattle.source.specs.Unicode.{irregularWhitespace, irregularLineTerminator, lineTerminator, charAt, Spelt};
 
 pub const LF: char = '\u{000A}';
 pub const CR: char = '\u{000D}';
@@ -48,7 +42,8 @@ pub fn is_line_terminator(c: char) -> bool
 // The character whose first byte is at a place, or none at the end of the text.
 pub(crate) fn char_at(text: &str, at: usize) -> Option<char>
     requires { ⌜ Boundary (now text) at ⌝ }
-    ensures { λ r. ⌜ Cases r (at ≡ length (now (text .entry))) (λ c. drop at (now (text .entry)) ≡ encode c ++ drop (at + width c) (now (text .entry))) ⌝ }
+    ensures value { λ r. ⌜ r ≡ charAt (now (text .entry)) at ⌝ }
+    ensures spelt { λ r. ⌜ Spelt (now (text .entry)) at r ⌝ }
 {
     text[at..].chars().next()
 }

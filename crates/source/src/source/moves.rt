@@ -1,15 +1,12 @@
 // What a source answers of its place, and how the place moves.
 ghost use mathlib.Core.Path.{_≡_};
-ghost use mathlib.Core.List.{[], _++_};
-ghost use mathlib.Core.Bool.{true, false};
-ghost use Prim.Native.Nat.{ℕ, _+_, _<_, _≤_};
+ghost use mathlib.Core.List.{[]};
+ghost use Prim.Native.Nat.{_<_, _≤_};
 ghost use lib.Dec.{eqb};
-ghost use lib.ListN.{length, drop, getD};
-ghost use lib.Utf8.{encode};
-ghost use Rattle.std.specs.Options.{Cases};
+ghost use lib.ListN.{length};
 ghost use Rattle.std.specs.Orderings.{When};
-ghost use Rattle.std.specs.Text.{width};
 ghost use Rattle.std.specs.Words.{Boundary};
+ghost use Rattle.source.specs.Unicode.{charAt, Spelt};
 ghost use Rattle.source.specs.View.{textOf, placeOf};
 use crate::source::MAX_LEN;
 use crate::source::Source;
@@ -56,7 +53,8 @@ impl<'a> Source<'a> {
 
     // The character at the place.
     pub fn peek_char(&self) -> Option<char>
-        ensures { λ r. ⌜ Cases r (placeOf (now (self .entry)) ≡ length (textOf (now (self .entry)))) (λ c. drop (placeOf (now (self .entry))) (textOf (now (self .entry))) ≡ encode c ++ drop (placeOf (now (self .entry)) + width c) (textOf (now (self .entry)))) ⌝ }
+        ensures value { λ r. ⌜ r ≡ charAt (textOf (now (self .entry))) (placeOf (now (self .entry))) ⌝ }
+        ensures spelt { λ r. ⌜ Spelt (textOf (now (self .entry))) (placeOf (now (self .entry))) r ⌝ }
     {
         char_at(self.text, self.place)
     }

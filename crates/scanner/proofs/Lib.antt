@@ -1,0 +1,5 @@
+pub mod Lines
+mod Whites
+mod Cuts
+mod Comments
+mod Spaces

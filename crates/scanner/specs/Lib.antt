@@ -1,0 +1,3 @@
+pub mod Ecma
+pub mod Pieces
+pub mod View
