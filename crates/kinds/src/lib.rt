@@ -1,2 +1,3 @@
 // Token kinds, what is asked about a kind, and tokens.
 pub mod kind;
+pub mod token;

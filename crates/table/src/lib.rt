@@ -126,7 +126,8 @@ impl<'a, T: Row + Copy> Table<'a, T> {
     }
 
     pub fn len(&self) -> usize
-        ensures { λ r. ⌜ r ≡ length (keptOf (now (self .entry))) ⌝ }
+        ensures value { λ r. ⌜ r ≡ length (keptOf (now (self .entry))) ⌝ }
+        ensures within { λ r. ⌜ r ≤ length (rowsOf (now (self .entry))) ⌝ }
     {
         recorded(self.count, self.rows.len())
     }

@@ -1,0 +1,5 @@
+// Which comment goes with which token: the builder that is fed comments, line breaks and tokens.
+pub mod event;
+pub mod rows;
+pub mod state;
+pub mod trivia_builder;

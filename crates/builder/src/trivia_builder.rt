@@ -1,0 +1,242 @@
+// The builder's calls.
+ghost use mathlib.Core.Path.{_≡_};
+ghost use mathlib.Core.Bool.{true, false, cond};
+ghost use Prim.Native.Nat.{ℕ, _+_, _-_, _≤_, _<_};
+ghost use lib.ListN.{length, set};
+ghost use denote.Ref.{name};
+ghost use Rattle.std.specs.declared.option.Option.{Option};
+ghost use Rattle.std.specs.declared.option.Option.the-variants.{Some, None};
+ghost use Rattle.table.specs.View.{rowsOf, countOf, keptOf};
+ghost use Rattle.builder.specs.Building.{extended, goesBack, tokenAttachment, endedRows, endedTo, newlineRows, newlineProcessed, tokenRows, tokenProcessed, eventOf, lineEnds, lineRows, lineProcessed, newRow, ranged, taken, takenRows, stateOf, newlineTo, tokenTo, opened, cleared};
+use crate::event::Attach;
+use crate::event::Event;
+use crate::event::match_event;
+use crate::rows::Attachment;
+use crate::rows::attach_pending_comments;
+use crate::rows::last_stays_leading;
+use crate::rows::set_followed_by_newline;
+use crate::state::TriviaBuilder;
+use comments::comment::Comment;
+use comments::comment::CommentContent;
+use comments::comment::CommentKind;
+use comments::comment::CommentPosition;
+use comments::comment::CommentRow;
+use kinds::kind::Kind;
+use kinds::token::Token;
+use table::Appended;
+use table::Table;
+
+// A range with one row more: the first row of it stays, and this row is its last.
+fn extend(range: Option<(usize, usize)>, row: usize) -> Option<(usize, usize)>
+    requires { ⌜ row < 18446744073709551615 ⌝ }
+    ensures { λ r. ⌜ r ≡ extended range row ⌝ }
+{
+    match range {
+        Some((first, _)) => Some((first, row + 1)),
+        None => Some((row, row + 1)),
+    }
+}
+
+// Where waiting rows go when a token comes.
+fn token_attachment(previous: &Token, token: &Token) -> Attachment
+    ensures { λ r. ⌜ r ≡ tokenAttachment (now (previous .entry)) (now (token .entry)) ⌝ }
+{
+    if goes_back(previous.kind, token.kind) {
+        Attachment::ToEither(previous.end, token.start)
+    } else {
+        Attachment::ToNext(token.start)
+    }
+}
+
+fn goes_back(previous: Kind, next: Kind) -> bool
+    ensures { λ r. ⌜ r ≡ goesBack previous next ⌝ }
+{
+    if previous.is(Kind::Undetermined) {
+        return false;
+    }
+    if next.is(Kind::Eof) {
+        return true;
+    }
+    previous.can_end_expression() && next.continues_previous_expression()
+}
+
+// All waiting rows go to the token before, unless the last of them stays leading; the answer is how many are attached then.
+fn end_line(rows: &mut [Comment], processed: usize, count: usize, previous_end: u32) -> usize
+    requires { ⌜ count ≤ length (now rows) ⌝ }
+    ensures rows { λ _. ⌜ now (rows .exit) ≡ endedRows (now (rows .entry)) processed count «previous_end» ⌝ }
+    ensures processed { λ r. ⌜ r ≡ endedTo (now (rows .entry)) processed count ⌝ }
+{
+    if last_stays_leading(rows, count) {
+        return processed;
+    }
+    attach_pending_comments(rows, processed, count, Attachment::ToPrevious(previous_end));
+    count
+}
+
+fn newline_rows(rows: &mut [Comment], processed: usize, count: usize, attach: Attach, previous_end: u32) -> usize
+    requires { ⌜ count ≤ length (now rows) ⌝ }
+    ensures rows { λ _. ⌜ now (rows .exit) ≡ newlineRows attach (now (rows .entry)) processed count «previous_end» ⌝ }
+    ensures processed { λ r. ⌜ r ≡ newlineProcessed attach (now (rows .entry)) processed count ⌝ }
+{
+    match attach {
+        Attach::Wait => processed,
+        Attach::ToToken => processed,
+        Attach::MarkLast => {
+            set_followed_by_newline(rows, count);
+            processed
+        }
+        Attach::EndLine => {
+            set_followed_by_newline(rows, count);
+            end_line(rows, processed, count, previous_end)
+        }
+    }
+}
+
+fn token_rows(rows: &mut [Comment], processed: usize, count: usize, attach: Attach, how: Attachment) -> usize
+    requires { ⌜ count ≤ length (now rows) ⌝ }
+    ensures rows { λ _. ⌜ now (rows .exit) ≡ tokenRows attach (now (rows .entry)) processed count how ⌝ }
+    ensures processed { λ r. ⌜ r ≡ tokenProcessed attach processed count ⌝ }
+{
+    match attach {
+        Attach::Wait => processed,
+        Attach::MarkLast => processed,
+        Attach::EndLine => processed,
+        Attach::ToToken => {
+            attach_pending_comments(rows, processed, count, how);
+            count
+        }
+    }
+}
+
+fn event_of(kind: CommentKind) -> Event
+    ensures { λ r. ⌜ r ≡ eventOf kind ⌝ }
+{
+    if kind.is_line() { Event::LineComment } else { Event::BlockComment }
+}
+
+// Whether a comment ends the line of the token before.
+fn ends_line(attach: Attach, previous: Kind) -> bool
+    ensures { λ r. ⌜ r ≡ lineEnds attach previous ⌝ }
+{
+    match attach {
+        Attach::Wait => false,
+        Attach::MarkLast => false,
+        Attach::ToToken => false,
+        Attach::EndLine => !previous.keeps_line_comment_leading(),
+    }
+}
+
+fn line_rows(rows: &mut [Comment], processed: usize, count: usize, ends: bool, previous_end: u32) -> usize
+    requires { ⌜ count ≤ length (now rows) ⌝ }
+    ensures rows { λ _. ⌜ now (rows .exit) ≡ lineRows ends (now (rows .entry)) processed count «previous_end» ⌝ }
+    ensures processed { λ r. ⌜ r ≡ lineProcessed ends (now (rows .entry)) processed count ⌝ }
+{
+    if ends { end_line(rows, processed, count, previous_end) } else { processed }
+}
+
+impl TriviaBuilder {
+    // The row of a new comment, before it is attached.
+    fn new_row(&self, start: u32, end: u32, kind: CommentKind, content: CommentContent) -> Comment
+        ensures { λ r. ⌜ r ≡ newRow (now (self .entry)) start end kind content ⌝ }
+    {
+        Comment {
+            start,
+            end,
+            kind,
+            content,
+            position: CommentPosition::Leading,
+            attached_to: 0,
+            preceded_by_newline: self.saw_newline_for_comment,
+            followed_by_newline: kind.is_line(),
+        }
+    }
+
+    // The row of a remark that is not applied yet extends its range.
+    fn set_annotation_flags(&mut self, content: CommentContent, index: usize)
+        requires { ⌜ index < 18446744073709551615 ⌝ }
+        ensures { λ _. ⌜ now (self .exit) ≡ ranged (now (self .entry)) content index ⌝ }
+    {
+        match content {
+            CommentContent::PureNotApplied => {
+                self.pure_comments = extend(self.pure_comments, index);
+            }
+            CommentContent::NoSideEffectsNotApplied => {
+                self.no_side_effects_comments = extend(self.no_side_effects_comments, index);
+            }
+            _ => {}
+        }
+    }
+
+    // What a new comment in the row `index` does.
+    fn take_in(&mut self, rows: &mut [Comment], index: usize, row: Comment)
+        requires { ⌜ index < length (now rows) ⌝ }
+        ensures builder { λ _. ⌜ now (self .exit) ≡ taken (now (self .entry)) (now (rows .entry)) index row ⌝ }
+        ensures rows { λ _. ⌜ now (rows .exit) ≡ takenRows (now (self .entry)) (now (rows .entry)) index row ⌝ }
+    {
+        let effect = match_event(self.saw_newline, self.saw_newline_for_comment, self.processed < index, event_of(row.kind));
+        let ends = ends_line(effect.attach, self.previous_token.kind);
+        self.processed = line_rows(rows, self.processed, index + 1, ends, self.previous_token.end);
+        self.saw_newline = effect.saw_newline;
+        self.saw_newline_for_comment = effect.saw_newline_for_comment;
+        self.set_annotation_flags(row.content, index);
+    }
+
+    // The builder of an opened text.
+    pub fn new() -> Self
+        ensures { λ r. ⌜ r ≡ opened ⌝ }
+    {
+        TriviaBuilder {
+            processed: 0,
+            saw_newline: true,
+            saw_newline_for_comment: true,
+            previous_token: Token { kind: Kind::Undetermined, start: 0, end: 0, is_on_new_line: false },
+            pure_comments: None,
+            no_side_effects_comments: None,
+        }
+    }
+
+    pub fn previous_token_pure_comments(&self) -> Option<(usize, usize)>
+        ensures { λ r. ⌜ r ≡ now (self .entry) .«pure_comments» ⌝ }
+    {
+        self.pure_comments
+    }
+
+    pub fn previous_token_no_side_effects_comments(&self) -> Option<(usize, usize)>
+        ensures { λ r. ⌜ r ≡ now (self .entry) .«no_side_effects_comments» ⌝ }
+    {
+        self.no_side_effects_comments
+    }
+
+    // Empties both ranges, as before each token.
+    pub fn clear_ranges(&mut self)
+        ensures { λ _. ⌜ now (self .exit) ≡ cleared (now (self .entry)) ⌝ }
+    {
+        self.pure_comments = None;
+        self.no_side_effects_comments = None;
+    }
+
+    // A line break that no line comment swallowed.
+    pub fn handle_newline(&mut self, comments: &mut Table<'_, Comment>)
+        ensures state { λ _. ⌜ stateOf (now (self .exit)) (now (comments .exit)) ≡ newlineTo (stateOf (now (self .entry)) (now (comments .entry))) ⌝ }
+        ensures lender { λ _. ⌜ name (now (comments .exit) .rows) ≡ name (now (comments .entry) .rows) ⌝ }
+    {
+        let count = comments.len();
+        let effect = match_event(self.saw_newline, self.saw_newline_for_comment, self.processed < count, Event::Newline);
+        self.processed = newline_rows(comments.rows, self.processed, count, effect.attach, self.previous_token.end);
+        self.saw_newline = effect.saw_newline;
+        self.saw_newline_for_comment = effect.saw_newline_for_comment;
+    }
+
+    pub fn handle_token(&mut self, comments: &mut Table<'_, Comment>, token: Token)
+        ensures state { λ _. ⌜ stateOf (now (self .exit)) (now (comments .exit)) ≡ tokenTo (stateOf (now (self .entry)) (now (comments .entry))) token ⌝ }
+        ensures lender { λ _. ⌜ name (now (comments .exit) .rows) ≡ name (now (comments .entry) .rows) ⌝ }
+    {
+        let count = comments.len();
+        let effect = match_event(self.saw_newline, self.saw_newline_for_comment, self.processed < count, Event::Token);
+        let how = token_attachment(&self.previous_token, &token);
+        self.processed = token_rows(comments.rows, self.processed, count, effect.attach, how);
+        self.saw_newline = effect.saw_newline;
+        self.saw_newline_for_comment = effect.saw_newline_for_comment;
+        self.previous_token = token;
+    }
+}
