@@ -1,10 +1,18 @@
 -- What each event makes of the builder and its rows.
 use mathlib.Core.Bool.{Bool, true, false, cond, not, _&&_, _||_}
-use mathlib.Core.List.{List}
-use Prim.Native.Nat.{ℕ, _+_, min}
+use mathlib.Core.List.{List, map}
+use mathlib.Core.Path.{_≡_}
+use Prim.Native.Nat.{ℕ, _+_, _<_}
 use lib.Dec.{eqb, ltb}
-use lib.ListN.{length, take}
+use lib.ListN.{length, take, getD, set}
 use Rattle.std.specs.declared.option.Option.{Option}
+use Rattle.std.specs.declared.result.Result.{Result}
+use Rattle.std.specs.declared.result.Result.the-variants.{Ok, Err}
+use Rattle.refusals.specs.declared.Refusal.{Refusal}
+use Rattle.refusals.specs.declared.Refusal.the-variants.{CommentsFull, SpacesFull, BadComment}
+use Rattle.table.specs.declared.Appended.{Appended}
+use Rattle.table.specs.declared.Appended.the-variants.{Added, Dropped, Full}
+use Rattle.table.specs.Order.{Rising, outcome}
 use Rattle.std.specs.declared.option.Option.the-variants.{Some, None}
 use Rattle.kinds.specs.declared.kind.Kind.{Kind}
 use Rattle.kinds.specs.declared.kind.Kind.the-variants.{Eof, Undetermined}
@@ -14,7 +22,8 @@ use Rattle.comments.specs.declared.comment.Comment.{Comment}
 use Rattle.comments.specs.declared.comment.CommentKind.{CommentKind}
 use Rattle.comments.specs.declared.comment.CommentContent.{CommentContent}
 use Rattle.comments.specs.declared.comment.CommentPosition.the-variants.{Leading}
-use Rattle.comments.specs.Rows.{contentNumber, lineKind}
+use Rattle.comments.specs.Rows.{contentNumber, lineKind, blockKind}
+use Rattle.comments.specs.Classing.{classOf}
 use Rattle.table.specs.declared.Table.{Table}
 use Rattle.table.specs.View.{rowsOf, countOf}
 use Rattle.builder.specs.declared.event.Attach.{Attach}
@@ -26,8 +35,10 @@ use Rattle.builder.specs.declared.event.Event.the-variants as event
 use Rattle.builder.specs.declared.rows.Attachment.{Attachment}
 use Rattle.builder.specs.declared.rows.Attachment.the-variants.{ToPrevious, ToEither, ToNext}
 use Rattle.builder.specs.declared.state.TriviaBuilder.{TriviaBuilder}
+use Rattle.builder.specs.declared.span.Span.{Span}
+use Rattle.builder.specs.Content.{Fits, contentBytes}
 use Rattle.builder.specs.Events.{effectOf}
-use Rattle.builder.specs.Rows.{over, attachedRow, lastFollowed, lastStays}
+use Rattle.builder.specs.Rows.{over, attachedRow, lastFollowed, lastStays, noComment}
 
 abbrev pub Range : Type 0
 Range = Option (ℕ × ℕ)
@@ -93,9 +104,10 @@ moved b n m processed previous =
 -- a line break
 abbrev pub newlineBy : Effect → State → State
 newlineBy e s = record {
-    builder = moved (s .builder) (e .«saw_newline») (e .«saw_newline_for_comment») (newlineProcessed (e .attach) (s .rows) (s .builder .processed) (recorded s)) (s .builder .«previous_token»);
-    rows = newlineRows (e .attach) (s .rows) (s .builder .processed) (recorded s) (s .builder .«previous_token» .end);
-    count = s .count }
+  builder = moved (s .builder) (e .«saw_newline») (e .«saw_newline_for_comment») (newlineProcessed (e .attach) (s .rows) (s .builder .processed) (recorded s)) (s .builder .«previous_token»);
+  rows = newlineRows (e .attach) (s .rows) (s .builder .processed) (recorded s) (s .builder .«previous_token» .end);
+  count = s .count;
+}
 
 abbrev pub newlineTo : State → State
 newlineTo s = newlineBy (effectAt s Newline) s
@@ -115,9 +127,10 @@ tokenProcessed ToToken processed count = count
 -- a token
 abbrev pub tokenBy : Effect → State → Token → State
 tokenBy e s token = record {
-    builder = moved (s .builder) (e .«saw_newline») (e .«saw_newline_for_comment») (tokenProcessed (e .attach) (s .builder .processed) (recorded s)) token;
-    rows = tokenRows (e .attach) (s .rows) (s .builder .processed) (recorded s) (tokenAttachment (s .builder .«previous_token») token);
-    count = s .count }
+  builder = moved (s .builder) (e .«saw_newline») (e .«saw_newline_for_comment») (tokenProcessed (e .attach) (s .builder .processed) (recorded s)) token;
+  rows = tokenRows (e .attach) (s .rows) (s .builder .processed) (recorded s) (tokenAttachment (s .builder .«previous_token») token);
+  count = s .count;
+}
 
 abbrev pub tokenTo : State → Token → State
 tokenTo s token = tokenBy (effectAt s event.Token) s token
@@ -135,9 +148,13 @@ cleared b = record { processed = b .processed; «saw_newline» = b .«saw_newlin
 -- a remark not yet applied extends its range
 abbrev pub ranged : TriviaBuilder → CommentContent → ℕ → TriviaBuilder
 ranged b content row = record {
-    processed = b .processed; «saw_newline» = b .«saw_newline»; «saw_newline_for_comment» = b .«saw_newline_for_comment»; «previous_token» = b .«previous_token»;
-    «pure_comments» = cond (eqb (contentNumber content) 5) (extended (b .«pure_comments») row) (b .«pure_comments»);
-    «no_side_effects_comments» = cond (eqb (contentNumber content) 7) (extended (b .«no_side_effects_comments») row) (b .«no_side_effects_comments») }
+  processed = b .processed;
+  «saw_newline» = b .«saw_newline»;
+  «saw_newline_for_comment» = b .«saw_newline_for_comment»;
+  «previous_token» = b .«previous_token»;
+  «pure_comments» = cond (eqb (contentNumber content) 5) (extended (b .«pure_comments») row) (b .«pure_comments»);
+  «no_side_effects_comments» = cond (eqb (contentNumber content) 7) (extended (b .«no_side_effects_comments») row) (b .«no_side_effects_comments»);
+}
 
 abbrev pub eventOf : CommentKind → Event
 eventOf kind = cond (lineKind kind) LineComment BlockComment
@@ -173,3 +190,60 @@ taken b rows index row = takenBy (takenEffect b index row) b rows index row
 
 abbrev pub takenRows : TriviaBuilder → List Comment → ℕ → Comment → List Comment
 takenRows b rows index row = lineRows (lineEnds (takenEffect b index row .attach) (b .«previous_token» .kind)) rows (b .processed) (index + 1) (b .«previous_token» .end)
+
+-- the comment rows on record are in rising order
+abbrev pub Ordered : List Comment → Type 0
+Ordered kept = Rising (map (λ (c : Comment). c .start) kept)
+
+-- a row on record has just this span
+abbrev pub HasSpan : List Comment → Comment → ℕ → Type 0
+HasSpan kept row i = (i < length kept) × (getD kept i noComment .start ≡ row .start) × (getD kept i noComment .end ≡ row .end)
+
+-- the row that has the span, or none in rows of rising order
+abbrev pub SpanAt : List Comment → Comment → Option ℕ → Type 0
+SpanAt kept row None = Ordered kept → (i : ℕ) → HasSpan kept row i → ⊥
+SpanAt kept row (Some i) = HasSpan kept row i
+
+abbrev pub rangedAt : Option ℕ → TriviaBuilder → CommentContent → TriviaBuilder
+rangedAt None b content = b
+rangedAt (Some i) b content = ranged b content i
+
+-- a comment that is on record already: its freshly found class extends the range by that row
+pub record Again (kept : List Comment) (row : Comment) (b after : TriviaBuilder) : Type 0 where
+  pub hit : Ordered kept → (i : ℕ) → HasSpan kept row i → after ≡ ranged b (row .content) i
+  pub miss : Ordered kept → ((i : ℕ) → HasSpan kept row i → ⊥) → after ≡ b
+  pub same : (after .processed ≡ b .processed) × (after .«saw_newline» ≡ b .«saw_newline») × (after .«saw_newline_for_comment» ≡ b .«saw_newline_for_comment») × (after .«previous_token» ≡ b .«previous_token»)
+
+-- a comment by what came of its row: added, on record already or not wanted, or no room
+abbrev pub Commented : Appended → State → Comment → State → Type 0
+Commented Added s row t =
+    (t .builder ≡ taken (s .builder) (set (s .rows) (s .count) row) (s .count) row) × (t .rows ≡ takenRows (s .builder) (set (s .rows) (s .count) row) (s .count) row) × (t .count ≡ s .count + 1)
+Commented Dropped s row t = Again (take (s .count) (s .rows)) row (s .builder) (t .builder) × (t .rows ≡ s .rows) × (t .count ≡ s .count)
+Commented Full s row t = t ≡ s
+
+-- what the builder answers to that
+abbrev pub commentAnswer : Appended → Result (Unit {0}) Refusal
+commentAnswer Added = Ok tt
+commentAnswer Dropped = Ok tt
+commentAnswer Full = Err CommentsFull
+
+abbrev pub outcomeOf : State → Comment → Appended
+outcomeOf s row = outcome (λ (c : Comment). c .start) (s .rows) (s .count) row
+
+-- the row that a comment is first put on record with
+abbrev pub rowFor : List ℕ → TriviaBuilder → ℕ → ℕ → CommentKind → Comment
+rowFor text b start end kind = newRow b start end kind (classOf (blockKind kind) (contentBytes text start end kind))
+
+-- a comment handed to the builder: refused if it does not fit the text, else by what comes of its row
+pub record Handed (text : List ℕ) (s : State) (start end : ℕ) (kind : CommentKind) (answer : Result (Unit {0}) Refusal) (t : State) : Type 0 where
+  pub bad : (Fits text start end kind → ⊥) → (answer ≡ Err BadComment) × (t ≡ s)
+  pub good : Fits text start end kind → (answer ≡ commentAnswer (outcomeOf s (rowFor text (s .builder) start end kind))) × Commented (outcomeOf s (rowFor text (s .builder) start end kind)) s (rowFor text (s .builder) start end kind) t
+
+-- what the builder answers to an irregular space
+abbrev pub spaceAnswer : Appended → Result (Unit {0}) Refusal
+spaceAnswer Added = Ok tt
+spaceAnswer Dropped = Ok tt
+spaceAnswer Full = Err SpacesFull
+
+abbrev pub spaceOutcome : List Span → ℕ → Span → Appended
+spaceOutcome rows count row = outcome (λ (s : Span). s .start) rows count row

@@ -1,3 +1,4 @@
 pub mod Events
 pub mod Rows
 pub mod Building
+pub mod Content

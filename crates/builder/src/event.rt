@@ -30,17 +30,54 @@ pub struct Effect {
     pub attach: Attach,
 }
 
-pub fn match_event(saw_newline: bool, saw_newline_for_comment: bool, pending: bool, event: Event) -> Effect
+pub fn match_event(
+    saw_newline: bool,
+    saw_newline_for_comment: bool,
+    pending: bool,
+    event: Event,
+) -> Effect
     ensures { λ r. ⌜ r ≡ effectOf «saw_newline» «saw_newline_for_comment» pending event ⌝ }
 {
     match (saw_newline, saw_newline_for_comment, pending, event) {
-        (_, _, false, Event::Newline) => Effect { saw_newline: true, saw_newline_for_comment: true, attach: Attach::Wait },
-        (true, _, true, Event::Newline) => Effect { saw_newline: true, saw_newline_for_comment: true, attach: Attach::MarkLast },
-        (false, _, true, Event::Newline) => Effect { saw_newline: true, saw_newline_for_comment: true, attach: Attach::EndLine },
-        (true, _, _, Event::LineComment) => Effect { saw_newline: true, saw_newline_for_comment: true, attach: Attach::Wait },
-        (false, _, _, Event::LineComment) => Effect { saw_newline: true, saw_newline_for_comment: true, attach: Attach::EndLine },
-        (_, _, _, Event::BlockComment) => Effect { saw_newline, saw_newline_for_comment: false, attach: Attach::Wait },
-        (_, _, false, Event::Token) => Effect { saw_newline: false, saw_newline_for_comment: false, attach: Attach::Wait },
-        (_, _, true, Event::Token) => Effect { saw_newline: false, saw_newline_for_comment: false, attach: Attach::ToToken },
+        (_, _, false, Event::Newline) => Effect {
+            saw_newline: true,
+            saw_newline_for_comment: true,
+            attach: Attach::Wait,
+        },
+        (true, _, true, Event::Newline) => Effect {
+            saw_newline: true,
+            saw_newline_for_comment: true,
+            attach: Attach::MarkLast,
+        },
+        (false, _, true, Event::Newline) => Effect {
+            saw_newline: true,
+            saw_newline_for_comment: true,
+            attach: Attach::EndLine,
+        },
+        (true, _, _, Event::LineComment) => Effect {
+            saw_newline: true,
+            saw_newline_for_comment: true,
+            attach: Attach::Wait,
+        },
+        (false, _, _, Event::LineComment) => Effect {
+            saw_newline: true,
+            saw_newline_for_comment: true,
+            attach: Attach::EndLine,
+        },
+        (_, _, _, Event::BlockComment) => Effect {
+            saw_newline,
+            saw_newline_for_comment: false,
+            attach: Attach::Wait,
+        },
+        (_, _, false, Event::Token) => Effect {
+            saw_newline: false,
+            saw_newline_for_comment: false,
+            attach: Attach::Wait,
+        },
+        (_, _, true, Event::Token) => Effect {
+            saw_newline: false,
+            saw_newline_for_comment: false,
+            attach: Attach::ToToken,
+        },
     }
 }

@@ -5,6 +5,8 @@ ghost use Prim.Native.Nat.{_≤_, _<_};
 ghost use lib.ListN.{length};
 ghost use Rattle.builder.specs.Rows.{mayGoBack, placedRow, attachedRow, over, lastFollowed, lastStays};
 use comments::comment::Comment;
+use comments::comment::CommentContent;
+use comments::comment::CommentKind;
 use comments::comment::CommentPosition;
 
 // How waiting rows are attached.
@@ -17,6 +19,18 @@ pub enum Attachment {
     // All to the start of the new token.
     ToNext(u32),
 }
+
+// The row that is read where there is none.
+pub(crate) const NO_COMMENT: Comment = Comment {
+    start: 0,
+    end: 0,
+    kind: CommentKind::Line,
+    content: CommentContent::None,
+    position: CommentPosition::Leading,
+    attached_to: 0,
+    preceded_by_newline: false,
+    followed_by_newline: false,
+};
 
 fn may_go_back(row: &Comment) -> bool
     ensures { λ r. ⌜ r ≡ mayGoBack (now (row .entry)) ⌝ }

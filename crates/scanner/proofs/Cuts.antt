@@ -66,16 +66,16 @@ one bs i n u e lt low = let P : ℕ → Type 0 = λ k. Boundary bs (i + k) in su
 pub cut-after-terminator : (bs : List ℕ) (i n : ℕ) → Utf8 bs → Boundary bs i → n ≡ term (getD bs i 0) (getD bs (i + 1) 0) (getD bs (i + 2) 0) → Boundary bs (i + n)
 cut-after-terminator bs i n u here is =
     ⊎-elim
-      (λ e. let P : ℕ → Type 0 = λ k. Boundary bs k in subst P (omega (arith, is, e)) here)
-      (⊎-elim
-        (λ h. let b10 : (getD bs i 0 ≡ 10) ⊎ (getD bs i 0 ≡ 13) = ⊎-elim (λ x. inl (eqb-true _ _ x)) (λ x. inr (eqb-true _ _ x)) (h .1) in
-          let low : (0 < getD bs i 0) × (getD bs i 0 < 128) = ⊎-elim (λ x. (omega arith, omega arith)) (λ x. (omega arith, omega arith)) b10 in
-          one bs i n u (is ∙ h .0) (getD-within bs i (low .0)) (low .1))
-        (λ h. ⊎-elim
-          (λ x. after bs i n 8232 u here (is ∙ h .0) ls (lit< tt) refl (eqb-true _ _ (h .1 .0)) (eqb-true _ _ (h .1 .1)) (eqb-true _ _ x))
-          (λ x. after bs i n 8233 u here (is ∙ h .0) ps (lit< tt) refl (eqb-true _ _ (h .1 .0)) (eqb-true _ _ (h .1 .1)) (eqb-true _ _ x))
-          (h .1 .2)))
-      (split (eqb (getD bs i 0) 10) (eqb (getD bs i 0) 13) (eqb (getD bs i 0) 226) (eqb (getD bs (i + 1) 0) 128) (eqb (getD bs (i + 2) 0) 168) (eqb (getD bs (i + 2) 0) 169))
+    (λ e. let P : ℕ → Type 0 = λ k. Boundary bs k in subst P (omega (arith, is, e)) here)
+    (⊎-elim
+    (λ h. let b10 : (getD bs i 0 ≡ 10) ⊎ (getD bs i 0 ≡ 13) = ⊎-elim (λ x. inl (eqb-true _ _ x)) (λ x. inr (eqb-true _ _ x)) (h .1) in
+    let low : (0 < getD bs i 0) × (getD bs i 0 < 128) = ⊎-elim (λ x. (omega arith, omega arith)) (λ x. (omega arith, omega arith)) b10 in
+    one bs i n u (is ∙ h .0) (getD-within bs i (low .0)) (low .1))
+    (λ h. ⊎-elim
+    (λ x. after bs i n 8232 u here (is ∙ h .0) ls (lit< tt) refl (eqb-true _ _ (h .1 .0)) (eqb-true _ _ (h .1 .1)) (eqb-true _ _ x))
+    (λ x. after bs i n 8233 u here (is ∙ h .0) ps (lit< tt) refl (eqb-true _ _ (h .1 .0)) (eqb-true _ _ (h .1 .1)) (eqb-true _ _ x))
+    (h .1 .2)))
+    (split (eqb (getD bs i 0) 10) (eqb (getD bs i 0) 13) (eqb (getD bs i 0) 226) (eqb (getD bs (i + 1) 0) 128) (eqb (getD bs (i + 2) 0) 168) (eqb (getD bs (i + 2) 0) 169))
 
 -- after a run of ASCII bytes the text may be cut
 pub cut-after-ascii : (bs : List ℕ) (from to : ℕ) → Utf8 bs → from < to → to ≤ length bs → ((k : ℕ) → from ≤ k → k < to → getD bs k 0 < 128) → Boundary bs to

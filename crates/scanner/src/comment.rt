@@ -33,7 +33,11 @@ pub fn terminator_at(text: &[u8], at: usize) -> usize
     }
     let c = text[at + 1];
     let d = text[at + 2];
-    if c == 0x80 && (d == 0xA8 || d == 0xA9) { 3 } else { 0 }
+    if c == 0x80 && (d == 0xA8 || d == 0xA9) {
+        3
+    } else {
+        0
+    }
 }
 
 // The end of the line that goes on at `from`: the first line terminator, or the end of the text.

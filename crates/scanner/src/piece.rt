@@ -59,13 +59,21 @@ fn line_comment(text: &str, at: usize) -> Scan<'_>
     let bytes = text.as_bytes();
     let end = skip_single_line_comment(bytes, at + 2);
     let after = end + terminator_at(bytes, end);
-    Scan::Found(Piece { start: at, end: after, trivia: Trivia::LineComment(&text[at..end]) })
+    Scan::Found(Piece {
+        start: at,
+        end: after,
+        trivia: Trivia::LineComment(&text[at..end]),
+    })
 }
 
 fn block_trivia(comment: &str, multi: bool) -> Trivia<'_>
     ensures { λ r. ⌜ shapeOf r ≡ block multi (now (comment .entry)) ⌝ }
 {
-    if multi { Trivia::MultiLineBlock(comment) } else { Trivia::SingleLineBlock(comment) }
+    if multi {
+        Trivia::MultiLineBlock(comment)
+    } else {
+        Trivia::SingleLineBlock(comment)
+    }
 }
 
 fn block_comment(text: &str, at: usize) -> Scan<'_>
@@ -78,7 +86,11 @@ fn block_comment(text: &str, at: usize) -> Scan<'_>
         Block::Unterminated(multi) => Scan::Unterminated(multi),
         Block::Ended(end, multi) => {
             let trivia = block_trivia(&text[at..end], multi);
-            Scan::Found(Piece { start: at, end, trivia })
+            Scan::Found(Piece {
+                start: at,
+                end,
+                trivia,
+            })
         }
     }
 }
@@ -123,17 +135,33 @@ fn white_from(text: &str, at: usize, c: char) -> Scan<'_>
     ensures lands { λ r. ⌜ Lands (now (text .entry)) at (standingOf r) ⌝ }
 {
     if is_regular_whitespace(c) {
-        return Scan::Found(Piece { start: at, end: at + 1, trivia: Trivia::Whitespace });
+        return Scan::Found(Piece {
+            start: at,
+            end: at + 1,
+            trivia: Trivia::Whitespace,
+        });
     }
     if is_regular_line_break(c) {
         let end = line_break_handler(text.as_bytes(), at + 1);
-        return Scan::Found(Piece { start: at, end, trivia: Trivia::LineBreak });
+        return Scan::Found(Piece {
+            start: at,
+            end,
+            trivia: Trivia::LineBreak,
+        });
     }
     if is_irregular_whitespace(c) {
-        return Scan::Found(Piece { start: at, end: at + c.len_utf8(), trivia: Trivia::IrregularWhitespace });
+        return Scan::Found(Piece {
+            start: at,
+            end: at + c.len_utf8(),
+            trivia: Trivia::IrregularWhitespace,
+        });
     }
     if is_irregular_line_terminator(c) {
-        return Scan::Found(Piece { start: at, end: at + c.len_utf8(), trivia: Trivia::IrregularLineBreak });
+        return Scan::Found(Piece {
+            start: at,
+            end: at + c.len_utf8(),
+            trivia: Trivia::IrregularLineBreak,
+        });
     }
     Scan::Nothing
 }
@@ -146,7 +174,11 @@ fn piece_from(text: &str, at: usize, c: char) -> Scan<'_>
     ensures value { λ r. ⌜ standingOf r ≡ pieceFrom (now (text .entry)) at c ⌝ }
     ensures lands { λ r. ⌜ Lands (now (text .entry)) at (standingOf r) ⌝ }
 {
-    if c == '/' { comment_from(text, at) } else { white_from(text, at, c) }
+    if c == '/' {
+        comment_from(text, at)
+    } else {
+        white_from(text, at, c)
+    }
 }
 
 // What stands at the source's place.

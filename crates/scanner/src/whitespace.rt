@@ -12,5 +12,9 @@ pub fn line_break_handler(text: &[u8], from: usize) -> usize
     ensures within { λ r. ⌜ (from ≤ r) × (from ≤ length (now (text .entry)) → r ≤ length (now (text .entry))) ⌝ }
     ensures ascii { λ r. ⌜ ((k : ℕ) → from ≤ k → k < r → getD (now (text .entry)) k 0 < 128) ⌝ }
 {
-    search::byte_search(search::not_regular_whitespace_or_line_break_table(), text, from)
+    search::byte_search(
+        search::not_regular_whitespace_or_line_break_table(),
+        text,
+        from,
+    )
 }

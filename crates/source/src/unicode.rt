@@ -4,8 +4,11 @@ ghost use Rattle.std.specs.Words.{Boundary};
 ghost use Rattle.source.specs.Unicode.{irregularWhitespace, irregularLineTerminator, lineTerminator, charAt, Spelt};
 
 pub const LF: char = '\u{000A}';
+
 pub const CR: char = '\u{000D}';
+
 pub const LS: char = '\u{2028}';
+
 pub const PS: char = '\u{2029}';
 
 // The white space besides space and tab.
@@ -14,11 +17,7 @@ pub fn is_irregular_whitespace(c: char) -> bool
 {
     matches!(
         c,
-        '\u{000B}'
-            | '\u{000C}'
-            | '\u{00A0}'
-            | '\u{1680}'
-            | '\u{2000}'..='\u{200A}'
+        '\u{000B}' | '\u{000C}' | '\u{00A0}' | '\u{1680}' | '\u{2000}'..='\u{200A}'
             | '\u{202F}'
             | '\u{205F}'
             | '\u{3000}'

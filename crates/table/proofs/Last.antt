@@ -27,8 +27,8 @@ module _ {R : Type 0} (at : R → ℕ) (rows : List R) (count start : ℕ) where
       let same : follows (starts at rows count) start ≡ cond (eqb n 0) true (ltb (at last) start) = ap (λ (k : ℕ). cond (eqb k 0) true (ltb (getD (starts at rows count) (k - 1) 0) start)) l ∙ ap (λ (k : ℕ). cond (eqb n 0) true (ltb k start)) here in
       sym (same ∙ pick n (ltb (at last) start) some)
     where
-    pick : (n : ℕ) (b : Bool) → 0 < n → cond (eqb n 0) true b ≡ b
-    pick n b h = grind (arith, tells)
+      pick : (n : ℕ) (b : Bool) → 0 < n → cond (eqb n 0) true b ≡ b
+      pick n b h = grind (arith, tells)
 
 -- the start of a row on record
 pub start-at : {R : Type 0} (at : R → ℕ) (rows : List R) (count i : ℕ) (row : R) → i < min count (length rows) → row ≡ getD rows i row → at row ≡ getD (starts at rows count) i 0

@@ -4,6 +4,7 @@ ghost use mathlib.Core.Bool.{true, false};
 ghost use Prim.Native.Nat.{ℕ, min, _+_, _-_, _<_, _≤_, _^_};
 ghost use lib.ListN.{length, take, getD, set};
 ghost use denote.Ref.{name};
+ghost use Rattle.std.specs.Options.{Cases};
 ghost use Rattle.table.specs.Order.{starts, follows, outcome, rowsWith, countWith, Parted, Found};
 ghost use Rattle.table.specs.View.{rowsOf, countOf, keptOf};
 
@@ -75,13 +76,18 @@ fn first_from<T: Row + Copy>(rows: &[T], count: usize, place: usize) -> usize
 }
 
 fn find_start<T: Row + Copy>(rows: &[T], count: usize, start: usize) -> Option<usize>
-    ensures { λ r. ⌜ Found (starts from (now (rows .entry)) count) start r ⌝ }
+    ensures found { λ r. ⌜ Found (starts from (now (rows .entry)) count) start r ⌝ }
+    ensures fits { λ r. ⌜ Cases r (Unit {0}) (λ i. i + 1 < 2 ^ 64) ⌝ }
 {
     let i = first_from(rows, count, start);
     if i >= recorded(count, rows.len()) {
         return None;
     }
-    if start_of(rows, count, i) == start { Some(i) } else { None }
+    if start_of(rows, count, i) == start {
+        Some(i)
+    } else {
+        None
+    }
 }
 
 fn put<T: Row + Copy>(rows: &mut [T], count: usize, row: T) -> Appended
@@ -112,7 +118,11 @@ fn more(a: Appended, count: usize, len: usize) -> usize
 fn row_or<T: Copy>(rows: &[T], count: usize, i: usize, or: T) -> T
     ensures { λ r. ⌜ r ≡ getD (take count (now (rows .entry))) i or ⌝ }
 {
-    if i < count && i < rows.len() { rows[i] } else { or }
+    if i < count && i < rows.len() {
+        rows[i]
+    } else {
+        or
+    }
 }
 
 impl<'a, T: Row + Copy> Table<'a, T> {
@@ -137,7 +147,11 @@ impl<'a, T: Row + Copy> Table<'a, T> {
         ensures value { λ r. ⌜ r ≡ length (rowsOf (now (self .entry))) - countOf (now (self .entry)) ⌝ }
         ensures fits { λ r. ⌜ length (keptOf (now (self .entry))) + r < 2 ^ 64 ⌝ }
     {
-        if self.count < self.rows.len() { self.rows.len() - self.count } else { 0 }
+        if self.count < self.rows.len() {
+            self.rows.len() - self.count
+        } else {
+            0
+        }
     }
 
     // Whether a row that starts there is a new one.
@@ -149,7 +163,8 @@ impl<'a, T: Row + Copy> Table<'a, T> {
 
     // The row on record that starts there, in rows of rising starts.
     pub fn find(&self, start: usize) -> Option<usize>
-        ensures { λ r. ⌜ Found (starts from (rowsOf (now (self .entry))) (countOf (now (self .entry)))) start r ⌝ }
+        ensures found { λ r. ⌜ Found (starts from (rowsOf (now (self .entry))) (countOf (now (self .entry)))) start r ⌝ }
+        ensures fits { λ r. ⌜ Cases r (Unit {0}) (λ i. i + 1 < 2 ^ 64) ⌝ }
     {
         find_start(self.rows, self.count, start)
     }

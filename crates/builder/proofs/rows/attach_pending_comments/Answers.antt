@@ -27,6 +27,6 @@ returns c =
     let f : Comment → Comment = attachedRow (c .args .how) in
     let rows : List Comment = c .args .rows .now in
     ⊎-elim
-      (λ (some : c .args .from < c .args .to). let e : c .loop-i .i ≡ c .args .to = omega arith in c .loop-i .inv .1 ∙ ap (λ (k : ℕ). over f (c .args .from) k rows) e)
-      (λ (empty : c .args .to ≤ c .args .from). let e : c .loop-i .i ≡ c .args .from = omega arith in c .loop-i .inv .1 ∙ ap (λ (k : ℕ). over f (c .args .from) k rows) e ∙ over-none f (c .args .from) (c .args .from) rows (omega arith) ∙ sym (over-none f (c .args .from) (c .args .to) rows empty))
-      (cases-lt (c .args .from) (c .args .to))
+    (λ (some : c .args .from < c .args .to). let e : c .loop-i .i ≡ c .args .to = omega arith in c .loop-i .inv .1 ∙ ap (λ (k : ℕ). over f (c .args .from) k rows) e)
+    (λ (empty : c .args .to ≤ c .args .from). let e : c .loop-i .i ≡ c .args .from = omega arith in c .loop-i .inv .1 ∙ ap (λ (k : ℕ). over f (c .args .from) k rows) e ∙ over-none f (c .args .from) (c .args .from) rows (omega arith) ∙ sym (over-none f (c .args .from) (c .args .to) rows empty))
+    (cases-lt (c .args .from) (c .args .to))

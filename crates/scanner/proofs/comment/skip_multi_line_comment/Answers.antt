@@ -32,8 +32,8 @@ loop-i-again c =
     let on = block-on (c .args .text .now) (c .byte-search-i .result) (c .loop-i .multi) (omega arith) (sym (c .closes-at .ensures) ∙ c .if-closes-at .left) in
     let is = term-drop (c .args .text .now) (c .byte-search-i .result) ∙ sym (c .terminator-at .ensures .value) in
     let f : (c .loop-i .multi || ltb 0 (terminator (drop (c .byte-search-i .result) (c .args .text .now)))) ≡ c .if-terminator-at-gt0 .multi =
-        elim (c .if-terminator-at-gt0 .came) [
-          then-terminator-at-gt0 w ↦ flag (c .loop-i .multi) (c .if-terminator-at-gt0 .multi) (terminator (drop (c .byte-search-i .result) (c .args .text .now))) (λ _. w .multi-is) (λ z. absurd (omega (arith, z, is, w .if-terminator-at-gt0 .taken)))
-          | else-terminator-at-gt0 w ↦ flag (c .loop-i .multi) (c .if-terminator-at-gt0 .multi) (terminator (drop (c .byte-search-i .result) (c .args .text .now))) (λ z. absurd (omega (arith, z, is, w .if-terminator-at-gt0 .left))) (λ _. w .multi-is)
-        ] in
+    elim (c .if-terminator-at-gt0 .came) [
+      | then-terminator-at-gt0 w ↦ flag (c .loop-i .multi) (c .if-terminator-at-gt0 .multi) (terminator (drop (c .byte-search-i .result) (c .args .text .now))) (λ _. w .multi-is) (λ z. absurd (omega (arith, z, is, w .if-terminator-at-gt0 .taken)))
+      | else-terminator-at-gt0 w ↦ flag (c .loop-i .multi) (c .if-terminator-at-gt0 .multi) (terminator (drop (c .byte-search-i .result) (c .args .text .now))) (λ z. absurd (omega (arith, z, is, w .if-terminator-at-gt0 .left))) (λ _. w .multi-is)
+    ] in
     (omega arith, ap (λ (m : Bool). blockFrom (c .byte-search-i .result + 1) m (drop (c .byte-search-i .result + 1) (c .args .text .now))) (sym f) ∙ sym on ∙ sym go ∙ c .loop-i .inv .1)

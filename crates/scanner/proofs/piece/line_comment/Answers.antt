@@ -11,7 +11,7 @@ ended c =
     let s = c .skip-single-line-comment-end .ensures in
     let le = c .as-bytes-bytes .ensures .len in
     subst (LineEnded (c .args .at) (c .skip-single-line-comment-end .result) (c .terminator-at .result)) e
-      (record { ends = s .end; wide = c .terminator-at .ensures .value; within = s .within .1 (omega (arith, le, c .pre .room)); stops = s .stops })
+    (record { ends = s .end; wide = c .terminator-at .ensures .value; within = s .within .1 (omega (arith, le, c .pre .room)); stops = s .stops })
 
 pub range-requires : need.range-requires
 range-requires c κs =

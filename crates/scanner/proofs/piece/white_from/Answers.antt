@@ -27,18 +27,21 @@ returns-then-is-regular-line-break c =
     let Low : List ℕ → Type 0 = λ l. (k : ℕ) → c .args .at + 1 ≤ k → k < c .line-break-handler-end .result → getD l k 0 < 128 in
     record {
       value = pass _ _ _ _ (c .if-is-regular-whitespace .ensures tt) (ap (λ (e : ℕ). piece (c .args .at) e newline) to ∙ choose-1 _ _ _ is);
-      lands = run-lands (c .args .text .now) (c .args .at) (c .args .c) (c .line-break-handler-end .result) (search needs) (c .pre .cut) (c .pre .spelt) low (c .line-break-handler-end .ensures .within .0) within (subst Low same (c .line-break-handler-end .ensures .ascii)) }
+      lands = run-lands (c .args .text .now) (c .args .at) (c .args .c) (c .line-break-handler-end .result) (search needs) (c .pre .cut) (c .pre .spelt) low (c .line-break-handler-end .ensures .within .0) within (subst Low same (c .line-break-handler-end .ensures .ascii));
+    }
 
 pub returns-then-is-irregular-whitespace : need.returns-then-is-irregular-whitespace
 returns-then-is-irregular-whitespace c =
     let wide = c .len-utf8 .ensures .value in
     record {
       value = pass _ _ _ _ (c .if-is-regular-whitespace .ensures tt) (pass _ _ _ _ (c .if-is-regular-line-break .ensures tt) (ap (λ (n : ℕ). piece (c .args .at) (c .args .at + n) irregular-space) wide ∙ choose-1 _ _ _ (c .if-is-irregular-whitespace .ensures tt)));
-      lands = char-lands (c .args .text .now) (c .args .at) (c .args .c) (c .len-utf8 .result) (search needs) (c .pre .cut) (c .pre .spelt) wide }
+      lands = char-lands (c .args .text .now) (c .args .at) (c .args .c) (c .len-utf8 .result) (search needs) (c .pre .cut) (c .pre .spelt) wide;
+    }
 
 pub returns-then-is-irregular-line-terminator : need.returns-then-is-irregular-line-terminator
 returns-then-is-irregular-line-terminator c =
     let wide = c .len-utf8-then-is-irregular-line-terminator .ensures .value in
     record {
       value = pass _ _ _ _ (c .if-is-regular-whitespace .ensures tt) (pass _ _ _ _ (c .if-is-regular-line-break .ensures tt) (pass _ _ _ _ (c .if-is-irregular-whitespace .ensures tt) (ap (λ (n : ℕ). piece (c .args .at) (c .args .at + n) irregular-newline) wide ∙ choose-1 _ _ _ (c .if-is-irregular-line-terminator .ensures tt))));
-      lands = char-lands (c .args .text .now) (c .args .at) (c .args .c) (c .len-utf8-then-is-irregular-line-terminator .result) (search needs) (c .pre .cut) (c .pre .spelt) wide }
+      lands = char-lands (c .args .text .now) (c .args .at) (c .args .c) (c .len-utf8-then-is-irregular-line-terminator .result) (search needs) (c .pre .cut) (c .pre .spelt) wide;
+    }

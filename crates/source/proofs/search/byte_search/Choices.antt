@@ -9,7 +9,7 @@ use Rattle.source.proofs.search.byte_search.Given as given
 
 abbrev pub Inv-loop-i : given.InvT-loop-i
 Inv-loop-i l = (l .from ≤ l .i) × (l .from ≤ length (l .text) → l .i ≤ length (l .text)) × ((k : ℕ) → l .from ≤ k → k < l .i → hits (l .table .0) (getD (l .text) k 0) ≡ false)
-  × (l .i + leading (misses (l .table .0)) (drop (l .i) (l .text)) ≡ l .from + leading (misses (l .table .0)) (drop (l .from) (l .text)))
+    × (l .i + leading (misses (l .table .0)) (drop (l .i) (l .text)) ≡ l .from + leading (misses (l .table .0)) (drop (l .from) (l .text)))
 
 abbrev pub μ-loop-i : given.MeasureT-loop-i
 μ-loop-i l = length (l .text) - l .i

@@ -1,0 +1,6 @@
+mod Parts
+mod Runs
+mod Strings
+mod Fairness
+mod Numbers
+mod Longest
