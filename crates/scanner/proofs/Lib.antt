@@ -1,5 +1,5 @@
 pub mod Lines
 mod Whites
-mod Cuts
+pub mod Cuts
 mod Comments
 mod Spaces

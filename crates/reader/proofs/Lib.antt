@@ -1,0 +1,2 @@
+mod Gaps
+mod Tokens

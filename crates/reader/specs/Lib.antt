@@ -1,0 +1,3 @@
+pub mod Gap
+pub mod Reading
+pub mod View
