@@ -1,0 +1,13 @@
+-- Each piece goes on in the same text, and the tables stay over their slices.
+use mathlib.Core.Path.{_≡_}
+use Prim.Native.Nat.{_-_}
+use denote.Ref.{name}
+use lib.ListN.{length}
+use Rattle.source.specs.View.{textOf, placeOf}
+use Rattle.reader.proofs.feed.feed_gap.Given as given
+
+abbrev pub Inv-loop-piece : given.InvT-loop-piece
+Inv-loop-piece l = (l .ahead .text ≡ l .source .text) × (name (l .comments .rows) ≡ name (l .entry .comments .rows)) × (name (l .spaces .rows) ≡ name (l .entry .spaces .rows))
+
+abbrev pub μ-loop-piece : given.MeasureT-loop-piece
+μ-loop-piece l = length (textOf (l .source)) - placeOf (l .ahead)
