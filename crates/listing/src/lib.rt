@@ -1,0 +1,3 @@
+// The listing of a reading: its comments, irregular spaces and unterminated end, a line each, and a closing line.
+pub mod lines;
+pub mod out;
