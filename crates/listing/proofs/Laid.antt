@@ -6,9 +6,9 @@ use Prim.Native.Nat.{ℕ, suc, min, _+_, _-_, _/_, _%_, _≤_, _<_, _^_}
 use native.Mathlib.Nat.{add-zero, zero-add, add-assoc}
 use native.Mathlib.Omega.{arith}
 use denote.Ref.{now}
-use lib.ListN.{length, getD, set, take, length-set}
+use lib.ListN.{length, getD, set, take, drop, length-set}
 use Rattle.std.specs.Written.{decimal}
-use Rattle.std.proofs.shelf.Lists.{length-push, set-past, take-more, take-all, append-nil}
+use Rattle.std.proofs.shelf.Lists.{length-push, set-past, set-at, take-more, take-all, append-nil}
 use Rattle.std.proofs.shelf.Tests.{cases-lt}
 use Rattle.std.proofs.shelf.Decimals.{decimal-digit, decimal-step}
 use Rattle.listing.specs.declared.out.Out.{Out}
@@ -60,3 +60,24 @@ pub wrote-line : (buffer xs ns : List ℕ) (mark : ℕ) (p : Out) → Wrote buff
 wrote-line buffer xs ns mark p h =
     let W : List ℕ → Type 0 = λ l. Wrote buffer l p in
     subst W (append-assoc (xs ++ mark ∷ []) (fieldsOf ns) (10 ∷ []) ∙ append-assoc xs (mark ∷ []) (fieldsOf ns ++ (10 ∷ []))) h
+
+-- four parts, one after another
+pub wrote-four : (buffer xs a b c d : List ℕ) (p : Out) → Wrote buffer ((((xs ++ a) ++ b) ++ c) ++ d) p → Wrote buffer (xs ++ (a ++ (b ++ (c ++ d)))) p
+wrote-four buffer xs a b c d p h = let W : List ℕ → Type 0 = λ l. Wrote buffer l p in subst W (append-assoc ((xs ++ a) ++ b) c d ∙ append-assoc (xs ++ a) b (c ++ d) ∙ append-assoc xs a (b ++ (c ++ d))) h
+
+-- what is written whole is followed by the rest of the buffer
+laid-at : (front buffer : List ℕ) (xs : List ℕ) → length xs ≤ length buffer → laid (front ++ buffer) (length front) xs ≡ front ++ (xs ++ drop (length xs) buffer)
+laid-at front buffer [] fits = refl
+laid-at front [] (x ∷ xs) fits = absurd (omega arith)
+laid-at front (b ∷ buffer) (x ∷ xs) fits =
+    ap (λ (l : List ℕ). laid l (length front + 1) xs) (set-at front b buffer x (length front) refl)
+      ∙ ap (λ (l : List ℕ). laid l (length front + 1) xs) (sym (append-assoc front (x ∷ []) buffer))
+      ∙ ap (λ (k : ℕ). laid ((front ++ x ∷ []) ++ buffer) k xs) (sym (length-push front x))
+      ∙ laid-at (front ++ x ∷ []) buffer xs (omega arith)
+      ∙ append-assoc front (x ∷ []) (xs ++ drop (length xs) buffer)
+
+pub laid-whole : (buffer xs : List ℕ) → length xs ≤ length buffer → laid buffer 0 xs ≡ xs ++ drop (length xs) buffer
+laid-whole buffer xs fits = laid-at [] buffer xs fits
+
+pub wrote-none : (buffer : List ℕ) (o : Out) → o .len ≡ 0 → now (o .bytes) ≡ buffer → Wrote buffer [] o
+wrote-none buffer o none same = record { long = none; bytes = same }

@@ -1,1 +1,4 @@
 mod Laid
+mod Lined
+mod Summed
+mod Fitted

@@ -49,6 +49,11 @@ fitting g comments spaces tokens (Some f) =
     (cond (eqb tokens 0) (Err refusal.TokensFull)
     (Ok f)))
 
+abbrev pub openingRefusal : Opening → Option Refusal
+openingRefusal Open = None
+openingRefusal TooLong = Some refusal.TooLong
+openingRefusal NotUtf8 = Some refusal.NotUtf8
+
 -- the questions in their order: the opening, the end of the text, and then the above
 abbrev pub verdict : Opening → Bool → Result Found Refusal → Result Found Refusal
 verdict TooLong ended answer = Err refusal.TooLong

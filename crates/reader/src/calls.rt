@@ -2,9 +2,10 @@
 ghost use mathlib.Core.Path.{_≡_};
 ghost use Prim.Native.Nat.{min};
 ghost use denote.Ref.{name};
+ghost use lib.ListN.{length};
 ghost use Rattle.std.specs.declared.option.Option.{Option};
-ghost use Rattle.reader.specs.Reading.{fitting, unless};
-ghost use Rattle.reader.specs.View.{Opened, reading, rowOf, Taken, ReadTo};
+ghost use Rattle.reader.specs.Reading.{fitting, unless, openingRefusal};
+ghost use Rattle.reader.specs.View.{readerText, Opened, reading, rowOf, Taken, ReadTo};
 use crate::Opening;
 use crate::Reader;
 use crate::feed::feed_gap;
@@ -71,6 +72,30 @@ impl<'t> Reader<'t> {
             Ok(text) => Reader { opening: Opening::Open, source: Source::new(text), builder: TriviaBuilder::new(), ended: false },
             Err(_) => Reader { opening: Opening::NotUtf8, source: Source::new(""), builder: TriviaBuilder::new(), ended: false },
         }
+    }
+
+    // Why every call is refused, if the text was not opened.
+    pub fn refusal(&self) -> Option<Refusal>
+        ensures { λ r. ⌜ r ≡ openingRefusal (now (self .entry) .opening) ⌝ }
+    {
+        match self.opening {
+            Opening::Open => None,
+            Opening::TooLong => Some(Refusal::TooLong),
+            Opening::NotUtf8 => Some(Refusal::NotUtf8),
+        }
+    }
+
+    // Whether the latest token is Eof.
+    pub fn has_ended(&self) -> bool
+        ensures { λ r. ⌜ r ≡ now (self .entry) .ended ⌝ }
+    {
+        self.ended
+    }
+
+    pub fn text_len(&self) -> usize
+        ensures { λ r. ⌜ r ≡ length (readerText (now (self .entry))) ⌝ }
+    {
+        self.source.whole().len()
     }
 
     // What a reading comes to: the token that it finds, or why it is refused.
