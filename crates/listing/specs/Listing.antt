@@ -16,6 +16,7 @@ use Rattle.comments.specs.declared.comment.Comment.{Comment}
 use Rattle.comments.specs.Rows.{kindNumber, contentNumber, positionNumber}
 use Rattle.builder.specs.declared.span.Span.{Span}
 use Rattle.reader.specs.declared.token_row.TokenRow.{TokenRow}
+use Rattle.refusals.specs.Numbers.{numberOf}
 use Rattle.listing.specs.Bytes.{lineOf}
 
 abbrev pub bit : Bool → ℕ
@@ -79,3 +80,7 @@ listed None bytes room = cond (ltb room (length bytes)) (Err ListingTooLong) (Ok
 abbrev pub listedBytes : Result ℕ Refusal → List ℕ → List ℕ → List ℕ
 listedBytes (Ok n) bytes buffer = bytes ++ drop (length bytes) buffer
 listedBytes (Err refusal) bytes buffer = buffer
+
+-- `R ` number
+abbrev pub refusalLine : Refusal → List ℕ
+refusalLine refusal = lineOf 82 (numberOf refusal ∷ [])

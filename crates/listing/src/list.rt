@@ -9,7 +9,7 @@ ghost use Rattle.table.specs.View.{keptOf};
 ghost use Rattle.reader.specs.Reading.{openingRefusal};
 ghost use Rattle.reader.specs.View.{readerText};
 ghost use Rattle.listing.specs.Bytes.{laid};
-ghost use Rattle.listing.specs.Listing.{listing, most, listed, listedBytes};
+ghost use Rattle.listing.specs.Listing.{listing, most, listed, listedBytes, refusalLine};
 use crate::lines::put_all;
 use crate::out::Out;
 use builder::span::Span;
@@ -52,4 +52,14 @@ pub fn list(reader: &Reader<'_>, tokens: &Table<'_, TokenRow>, comments: &Table<
     }
     write_out(buffer, tokens, comments, spaces, text_len);
     Ok(len)
+}
+
+// Writes the one line of a refusal; the answer is how many bytes it has.
+pub fn list_refusal(refusal: &Refusal, buffer: &mut [u8]) -> usize
+    ensures answer { λ r. ⌜ r ≡ min (length (refusalLine (now (refusal .entry)))) most ⌝ }
+    ensures bytes { λ _. ⌜ now (buffer .exit) ≡ laid (now (buffer .entry)) 0 (refusalLine (now (refusal .entry))) ⌝ }
+{
+    let mut out = Out::new(buffer);
+    out.put_line(b'R', &[refusal.number() as u64]);
+    out.len()
 }
