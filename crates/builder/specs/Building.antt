@@ -20,6 +20,7 @@ use Rattle.kinds.specs.declared.token.Token.{Token}
 use Rattle.kinds.specs.Kinds.{numberOf, canEndExpression, continuesPreviousExpression, keepsLineCommentLeading}
 use Rattle.comments.specs.declared.comment.Comment.{Comment}
 use Rattle.comments.specs.declared.comment.CommentKind.{CommentKind}
+use Rattle.comments.specs.declared.comment.CommentKind.the-variants.{SingleLineBlock, MultiLineBlock}
 use Rattle.comments.specs.declared.comment.CommentContent.{CommentContent}
 use Rattle.comments.specs.declared.comment.CommentPosition.the-variants.{Leading}
 use Rattle.comments.specs.Rows.{contentNumber, lineKind, blockKind}
@@ -142,8 +143,12 @@ noToken = record { kind = Undetermined; start = 0; end = 0; «is_on_new_line» =
 abbrev pub opened : TriviaBuilder
 opened = record { processed = 0; «saw_newline» = true; «saw_newline_for_comment» = true; «previous_token» = noToken; «pure_comments» = None; «no_side_effects_comments» = None }
 
-abbrev pub cleared : TriviaBuilder → TriviaBuilder
-cleared b = record { processed = b .processed; «saw_newline» = b .«saw_newline»; «saw_newline_for_comment» = b .«saw_newline_for_comment»; «previous_token» = b .«previous_token»; «pure_comments» = None; «no_side_effects_comments» = None }
+-- the builder with other ranges
+abbrev pub withRanges : TriviaBuilder → Range → Range → TriviaBuilder
+withRanges b pure none = record { processed = b .processed; «saw_newline» = b .«saw_newline»; «saw_newline_for_comment» = b .«saw_newline_for_comment»; «previous_token» = b .«previous_token»; «pure_comments» = pure; «no_side_effects_comments» = none }
+
+abbrev pub blockOf : Bool → CommentKind
+blockOf multi = cond multi MultiLineBlock SingleLineBlock
 
 -- a remark not yet applied extends its range
 abbrev pub ranged : TriviaBuilder → CommentContent → ℕ → TriviaBuilder
@@ -165,11 +170,11 @@ newRow b start end kind content =
     record { start = start; end = end; kind = kind; content = content; position = Leading; «attached_to» = 0; «preceded_by_newline» = b .«saw_newline_for_comment»; «followed_by_newline» = lineKind kind }
 
 -- whether a comment ends the line of the token before
-abbrev pub lineEnds : Attach → Kind → Bool
-lineEnds Wait previous = false
-lineEnds MarkLast previous = false
-lineEnds ToToken previous = false
-lineEnds EndLine previous = not (keepsLineCommentLeading previous)
+abbrev pub endsLine : Attach → Kind → Bool
+endsLine Wait previous = false
+endsLine MarkLast previous = false
+endsLine ToToken previous = false
+endsLine EndLine previous = not (keepsLineCommentLeading previous)
 
 abbrev pub lineRows : Bool → List Comment → ℕ → ℕ → ℕ → List Comment
 lineRows ends rows processed count end = cond ends (endedRows rows processed count end) rows
@@ -180,7 +185,7 @@ lineProcessed ends rows processed count = cond ends (endedTo rows processed coun
 -- the builder and the rows after a new comment was put into the row `index`
 abbrev pub takenBy : Effect → TriviaBuilder → List Comment → ℕ → Comment → TriviaBuilder
 takenBy e b rows index row =
-    ranged (moved b (e .«saw_newline») (e .«saw_newline_for_comment») (lineProcessed (lineEnds (e .attach) (b .«previous_token» .kind)) rows (b .processed) (index + 1)) (b .«previous_token»)) (row .content) index
+    ranged (moved b (e .«saw_newline») (e .«saw_newline_for_comment») (lineProcessed (endsLine (e .attach) (b .«previous_token» .kind)) rows (b .processed) (index + 1)) (b .«previous_token»)) (row .content) index
 
 abbrev pub takenEffect : TriviaBuilder → ℕ → Comment → Effect
 takenEffect b index row = effectOf (b .«saw_newline») (b .«saw_newline_for_comment») (ltb (b .processed) index) (eventOf (row .kind))
@@ -189,7 +194,7 @@ abbrev pub taken : TriviaBuilder → List Comment → ℕ → Comment → Trivia
 taken b rows index row = takenBy (takenEffect b index row) b rows index row
 
 abbrev pub takenRows : TriviaBuilder → List Comment → ℕ → Comment → List Comment
-takenRows b rows index row = lineRows (lineEnds (takenEffect b index row .attach) (b .«previous_token» .kind)) rows (b .processed) (index + 1) (b .«previous_token» .end)
+takenRows b rows index row = lineRows (endsLine (takenEffect b index row .attach) (b .«previous_token» .kind)) rows (b .processed) (index + 1) (b .«previous_token» .end)
 
 -- the comment rows on record are in rising order
 abbrev pub Ordered : List Comment → Type 0

@@ -9,7 +9,7 @@ ghost use Rattle.std.specs.declared.option.Option.{Option};
 ghost use Rattle.std.specs.declared.option.Option.the-variants.{Some, None};
 ghost use Rattle.table.specs.Order.{rowsWith, countWith};
 ghost use Rattle.table.specs.View.{rowsOf, countOf, keptOf};
-ghost use Rattle.builder.specs.Building.{extended, goesBack, tokenAttachment, endedRows, endedTo, newlineRows, newlineProcessed, tokenRows, tokenProcessed, eventOf, lineEnds, lineRows, lineProcessed, newRow, ranged, taken, takenRows, SpanAt, Again, Commented, commentAnswer, outcomeOf, Handed, spaceAnswer, spaceOutcome, stateOf, newlineTo, tokenTo, opened, cleared};
+ghost use Rattle.builder.specs.Building.{extended, goesBack, tokenAttachment, endedRows, endedTo, newlineRows, newlineProcessed, tokenRows, tokenProcessed, eventOf, endsLine, lineRows, lineProcessed, newRow, ranged, taken, takenRows, SpanAt, Again, Commented, commentAnswer, outcomeOf, Handed, spaceAnswer, spaceOutcome, stateOf, newlineTo, tokenTo, opened, withRanges, blockOf};
 use crate::content::content_of;
 use crate::event::Attach;
 use crate::event::Event;
@@ -140,7 +140,7 @@ fn event_of(kind: CommentKind) -> Event
 
 // Whether a comment ends the line of the token before.
 fn ends_line(attach: Attach, previous: Kind) -> bool
-    ensures { λ r. ⌜ r ≡ lineEnds attach previous ⌝ }
+    ensures { λ r. ⌜ r ≡ endsLine attach previous ⌝ }
 {
     match attach {
         Attach::Wait => false,
@@ -180,6 +180,16 @@ fn same_span(comments: &Table<'_, Comment>, row: &Comment) -> Option<usize>
         Some(index)
     } else {
         None
+    }
+}
+
+fn block_of(multi: bool) -> CommentKind
+    ensures { λ r. ⌜ r ≡ blockOf multi ⌝ }
+{
+    if multi {
+        CommentKind::MultiLineBlock
+    } else {
+        CommentKind::SingleLineBlock
     }
 }
 
@@ -311,11 +321,15 @@ impl TriviaBuilder {
         self.no_side_effects_comments
     }
 
-    // Empties both ranges, as before each token.
-    pub fn clear_ranges(&mut self)
-        ensures { λ _. ⌜ now (self .exit) ≡ cleared (now (self .entry)) ⌝ }
+    pub fn clear_pure_comments(&mut self)
+        ensures { λ _. ⌜ now (self .exit) ≡ withRanges (now (self .entry)) None (now (self .entry) .«no_side_effects_comments») ⌝ }
     {
         self.pure_comments = None;
+    }
+
+    pub fn clear_no_side_effects_comments(&mut self)
+        ensures { λ _. ⌜ now (self .exit) ≡ withRanges (now (self .entry)) (now (self .entry) .«pure_comments») None ⌝ }
+    {
         self.no_side_effects_comments = None;
     }
 
@@ -361,7 +375,7 @@ impl TriviaBuilder {
     }
 
     // A comment of the text. One that starts no later than the last row is on record already or not wanted.
-    pub fn add_comment(
+    fn add_comment(
         &mut self,
         comments: &mut Table<'_, Comment>,
         text: &str,
@@ -377,6 +391,34 @@ impl TriviaBuilder {
         };
         let row = self.new_row(start, end, kind, parse_annotation(kind, content));
         comment_answer(self.insert(comments, row))
+    }
+
+    pub fn add_line_comment(
+        &mut self,
+        comments: &mut Table<'_, Comment>,
+        text: &str,
+        start: u32,
+        end: u32,
+    ) -> Result<(), Refusal>
+        ensures handed { λ r. ⌜ Handed (now (text .entry)) (stateOf (now (self .entry)) (now (comments .entry))) start end CommentKind.Line r (stateOf (now (self .exit)) (now (comments .exit))) ⌝ }
+        ensures lender { λ _. ⌜ name (now (comments .exit) .rows) ≡ name (now (comments .entry) .rows) ⌝ }
+    {
+        self.add_comment(comments, text, start, end, CommentKind::Line)
+    }
+
+    // A block comment, with whether a line terminator stands in it.
+    pub fn add_block_comment(
+        &mut self,
+        comments: &mut Table<'_, Comment>,
+        text: &str,
+        start: u32,
+        end: u32,
+        multi: bool,
+    ) -> Result<(), Refusal>
+        ensures handed { λ r. ⌜ Handed (now (text .entry)) (stateOf (now (self .entry)) (now (comments .entry))) start end (blockOf multi) r (stateOf (now (self .exit)) (now (comments .exit))) ⌝ }
+        ensures lender { λ _. ⌜ name (now (comments .exit) .rows) ≡ name (now (comments .entry) .rows) ⌝ }
+    {
+        self.add_comment(comments, text, start, end, block_of(multi))
     }
 
     // An irregular space of the text, unless it is on record.

@@ -96,7 +96,7 @@ impl CommentContent {
     }
 
     // Whether a comment of this class stays with what follows it. Legal comments are kept before the statement that they stand
-    // before, and annotations speak of the next token, so neither trails the token before it.
+    // before, and annotations speak of the next token, so by itself neither goes back to the token before.
     pub fn should_stay_leading(self) -> bool
         ensures { λ r. ⌜ r ≡ staysLeading self ⌝ }
     {

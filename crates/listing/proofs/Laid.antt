@@ -27,10 +27,10 @@ pub wrote-push : (buffer xs : List ℕ) (o p : Out) (b : ℕ) → Wrote buffer x
 wrote-push buffer xs o p b h longer after fits =
     let room : length (laid buffer 0 xs) ≡ length (now (o .bytes)) = ap length (sym (h .bytes)) in
     let at : set (laid buffer 0 xs) (o .len) b ≡ set (laid buffer 0 xs) (0 + length xs) b =
-        ⊎-elim
-          (λ (past : 18446744073709551615 < length xs). set-past (laid buffer 0 xs) (o .len) b (omega (arith, h .long)) ∙ sym (set-past (laid buffer 0 xs) (0 + length xs) b (omega arith)))
-          (λ (in-reach : length xs ≤ 18446744073709551615). ap (λ (k : ℕ). set (laid buffer 0 xs) k b) (omega (arith, h .long)))
-          (cases-lt 18446744073709551615 (length xs)) in
+    ⊎-elim
+    (λ (past : 18446744073709551615 < length xs). set-past (laid buffer 0 xs) (o .len) b (omega (arith, h .long)) ∙ sym (set-past (laid buffer 0 xs) (0 + length xs) b (omega arith)))
+    (λ (in-reach : length xs ≤ 18446744073709551615). ap (λ (k : ℕ). set (laid buffer 0 xs) k b) (omega (arith, h .long)))
+    (cases-lt 18446744073709551615 (length xs)) in
     record { long = omega (arith, h .long, length-push xs b); bytes = after ∙ ap (λ (l : List ℕ). set l (o .len) b) (h .bytes) ∙ at ∙ sym (laid-push buffer 0 xs b) }
 
 -- one digit, or the front of the number and its last digit
@@ -71,10 +71,10 @@ laid-at front buffer [] fits = refl
 laid-at front [] (x ∷ xs) fits = absurd (omega arith)
 laid-at front (b ∷ buffer) (x ∷ xs) fits =
     ap (λ (l : List ℕ). laid l (length front + 1) xs) (set-at front b buffer x (length front) refl)
-      ∙ ap (λ (l : List ℕ). laid l (length front + 1) xs) (sym (append-assoc front (x ∷ []) buffer))
-      ∙ ap (λ (k : ℕ). laid ((front ++ x ∷ []) ++ buffer) k xs) (sym (length-push front x))
-      ∙ laid-at (front ++ x ∷ []) buffer xs (omega arith)
-      ∙ append-assoc front (x ∷ []) (xs ++ drop (length xs) buffer)
+    ∙ ap (λ (l : List ℕ). laid l (length front + 1) xs) (sym (append-assoc front (x ∷ []) buffer))
+    ∙ ap (λ (k : ℕ). laid ((front ++ x ∷ []) ++ buffer) k xs) (sym (length-push front x))
+    ∙ laid-at (front ++ x ∷ []) buffer xs (omega arith)
+    ∙ append-assoc front (x ∷ []) (xs ++ drop (length xs) buffer)
 
 pub laid-whole : (buffer xs : List ℕ) → length xs ≤ length buffer → laid buffer 0 xs ≡ xs ++ drop (length xs) buffer
 laid-whole buffer xs fits = laid-at [] buffer xs fits

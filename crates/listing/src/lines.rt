@@ -25,7 +25,12 @@ use table::Table;
 
 // Rows that are read where there is none.
 const NO_TOKEN: TokenRow = TokenRow {
-    token: Token { kind: Kind::Eof, start: 0, end: 0, is_on_new_line: false },
+    token: Token {
+        kind: Kind::Eof,
+        start: 0,
+        end: 0,
+        is_on_new_line: false,
+    },
     pure_comments: None,
     no_side_effects_comments: None,
     unterminated: false,
@@ -58,14 +63,23 @@ fn comment_bytes(comments: &Table<'_, Comment>) -> u64
 fn share_of(bytes: u64, text_len: u64) -> u64
     ensures { λ r. ⌜ r ≡ share bytes «text_len» ⌝ }
 {
-    if text_len == 0 { 0 } else { bytes.saturating_mul(1000) / text_len }
+    if text_len == 0 {
+        0
+    } else {
+        bytes.saturating_mul(1000) / text_len
+    }
 }
 
 fn end_fields(comments: &Table<'_, Comment>, spaces: &Table<'_, Span>, text_len: u64) -> [u64; 4]
     ensures { λ r. ⌜ r ≡ endFields (keptOf (now (comments .entry))) (keptOf (now (spaces .entry))) «text_len» ⌝ }
 {
     let bytes = comment_bytes(comments);
-    [comments.len() as u64, spaces.len() as u64, bytes, share_of(bytes, text_len)]
+    [
+        comments.len() as u64,
+        spaces.len() as u64,
+        bytes,
+        share_of(bytes, text_len),
+    ]
 }
 
 fn last_row(tokens: &Table<'_, TokenRow>) -> TokenRow
@@ -86,7 +100,13 @@ fn put_unterminated(out: &mut Out<'_>, row: TokenRow)
 }
 
 // All lines, in their order.
-pub(crate) fn put_all(out: &mut Out<'_>, tokens: &Table<'_, TokenRow>, comments: &Table<'_, Comment>, spaces: &Table<'_, Span>, text_len: u64)
+pub(crate) fn put_all(
+    out: &mut Out<'_>,
+    tokens: &Table<'_, TokenRow>,
+    comments: &Table<'_, Comment>,
+    spaces: &Table<'_, Span>,
+    text_len: u64,
+)
     ensures wrote { λ _. ⌜ ((buffer xs : List ℕ) → Wrote buffer xs (now (out .entry)) → Wrote buffer (xs ++ listing (keptOf (now (tokens .entry))) (keptOf (now (comments .entry))) (keptOf (now (spaces .entry))) «text_len») (now (out .exit))) ⌝ }
     ensures lender { λ _. ⌜ name (now (out .exit) .bytes) ≡ name (now (out .entry) .bytes) ⌝ }
 {

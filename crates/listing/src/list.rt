@@ -20,7 +20,12 @@ use refusals::Refusal;
 use table::Table;
 
 // How many bytes the listing has: it is written into no room at all, and counted.
-fn measure(tokens: &Table<'_, TokenRow>, comments: &Table<'_, Comment>, spaces: &Table<'_, Span>, text_len: u64) -> usize
+fn measure(
+    tokens: &Table<'_, TokenRow>,
+    comments: &Table<'_, Comment>,
+    spaces: &Table<'_, Span>,
+    text_len: u64,
+) -> usize
     ensures { λ r. ⌜ r ≡ min (length (listing (keptOf (now (tokens .entry))) (keptOf (now (comments .entry))) (keptOf (now (spaces .entry))) «text_len»)) most ⌝ }
 {
     let mut none: [u8; 0] = [];
@@ -30,7 +35,13 @@ fn measure(tokens: &Table<'_, TokenRow>, comments: &Table<'_, Comment>, spaces: 
 }
 
 // Writes the listing, which has room.
-fn write_out(buffer: &mut [u8], tokens: &Table<'_, TokenRow>, comments: &Table<'_, Comment>, spaces: &Table<'_, Span>, text_len: u64)
+fn write_out(
+    buffer: &mut [u8],
+    tokens: &Table<'_, TokenRow>,
+    comments: &Table<'_, Comment>,
+    spaces: &Table<'_, Span>,
+    text_len: u64,
+)
     ensures { λ _. ⌜ now (buffer .exit) ≡ laid (now (buffer .entry)) 0 (listing (keptOf (now (tokens .entry))) (keptOf (now (comments .entry))) (keptOf (now (spaces .entry))) «text_len») ⌝ }
 {
     let mut out = Out::new(buffer);
@@ -38,7 +49,13 @@ fn write_out(buffer: &mut [u8], tokens: &Table<'_, TokenRow>, comments: &Table<'
 }
 
 // Lists what the tables have on record. The answer is how many bytes the listing has; the others of the buffer are left alone.
-pub fn list(reader: &Reader<'_>, tokens: &Table<'_, TokenRow>, comments: &Table<'_, Comment>, spaces: &Table<'_, Span>, buffer: &mut [u8]) -> Result<usize, Refusal>
+pub fn list(
+    reader: &Reader<'_>,
+    tokens: &Table<'_, TokenRow>,
+    comments: &Table<'_, Comment>,
+    spaces: &Table<'_, Span>,
+    buffer: &mut [u8],
+) -> Result<usize, Refusal>
     ensures answer { λ r. ⌜ r ≡ listed (openingRefusal (now (reader .entry) .opening)) (listing (keptOf (now (tokens .entry))) (keptOf (now (comments .entry))) (keptOf (now (spaces .entry))) (length (readerText (now (reader .entry))))) (length (now (buffer .entry))) ⌝ }
     ensures bytes { λ r. ⌜ now (buffer .exit) ≡ listedBytes r (listing (keptOf (now (tokens .entry))) (keptOf (now (comments .entry))) (keptOf (now (spaces .entry))) (length (readerText (now (reader .entry))))) (now (buffer .entry)) ⌝ }
 {

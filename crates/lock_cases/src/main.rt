@@ -46,13 +46,7 @@ fn push_hex(text: &mut Vec<u8>, digits: &[u8]) -> Result<bool, AllocError> {
 // How often a field stands: as often as the number after `*` says, or once.
 fn repeats(count: &str) -> Option<usize> {
     match count.parse::<usize>() {
-        Ok(n) => {
-            if n <= REPEATS {
-                Some(n)
-            } else {
-                None
-            }
-        }
+        Ok(n) => { if n <= REPEATS { Some(n) } else { None } }
         Err(_) => None,
     }
 }
@@ -90,7 +84,10 @@ fn play(rt: &LibcRuntime, line: &str) -> Result<(), AnyError> {
     };
     println!(rt, "= {name}")?;
     match text_of(rt.alloc(), fields)? {
-        None => println!(rt, "! a field that is not hexadecimal, or is repeated too often")?,
+        None => println!(
+            rt,
+            "! a field that is not hexadecimal, or is repeated too often"
+        )?,
         Some(text) => {
             let mut out = [0u8; LISTING];
             let n = answer(text.as_slice(), &mut out);

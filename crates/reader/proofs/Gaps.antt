@@ -29,11 +29,12 @@ module _ (newComment newSpace : ℕ → Bool) (text : List ℕ) (at : ℕ) where
   more : (g : Gap) (start end left : ℕ) (shape : Shape) → pieceAt text (g .end) ≡ piece start end shape → g .end < end → end ≤ length text → length text ≤ left + g .end → gapOn newComment newSpace text (suc left) g ≡ gapAt newComment newSpace text at → g .comments ≤ g .end → g .spaces ≤ g .end → Going newComment newSpace text at (counted newComment newSpace g start end shape)
   more g start end zero shape is on within enough makes few spaces = absurd (omega arith)
   more g start end (suc left) shape is on within enough makes few spaces = record {
-      left = left;
-      enough = omega arith;
-      makes = sym (ap (λ (s : Standing). onward newComment newSpace s (gapOn newComment newSpace text (suc left)) g) is) ∙ makes;
-      few = omega (arith, at-most (commentShape shape && newComment start));
-      few-spaces = omega (arith, at-most (irregularShape shape && newSpace start)) }
+    left = left;
+    enough = omega arith;
+    makes = sym (ap (λ (s : Standing). onward newComment newSpace s (gapOn newComment newSpace text (suc left)) g) is) ∙ makes;
+    few = omega (arith, at-most (commentShape shape && newComment start));
+    few-spaces = omega (arith, at-most (irregularShape shape && newSpace start));
+  }
 
   pub going-more : (g : Gap) (start end : ℕ) (shape : Shape) → pieceAt text (g .end) ≡ piece start end shape → g .end < end → end ≤ length text → Going newComment newSpace text at g → Going newComment newSpace text at (counted newComment newSpace g start end shape)
   going-more g start end shape is on within h = more g start end (h .left) shape is on within (h .enough) (h .makes) (h .few) (h .few-spaces)

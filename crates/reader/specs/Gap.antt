@@ -40,11 +40,12 @@ emptyGap at = record { end = at; comments = 0; spaces = 0; newline = false; unte
 -- a gap with one piece more; whether a comment or a space is new is told by where it starts
 abbrev pub counted : (ℕ → Bool) → (ℕ → Bool) → Gap → ℕ → ℕ → Shape → Gap
 counted newComment newSpace g start end shape = record {
-    end = end;
-    comments = g .comments + cond (commentShape shape && newComment start) 1 0;
-    spaces = g .spaces + cond (irregularShape shape && newSpace start) 1 0;
-    newline = g .newline || newlineIn start end shape;
-    unterminated = false }
+  end = end;
+  comments = g .comments + cond (commentShape shape && newComment start) 1 0;
+  spaces = g .spaces + cond (irregularShape shape && newSpace start) 1 0;
+  newline = g .newline || newlineIn start end shape;
+  unterminated = false;
+}
 
 -- a gap before a block without an end
 abbrev pub unended : Gap → Bool → Gap

@@ -29,7 +29,13 @@ use table::Table;
 use tokens::token_reader::TokenReader;
 
 // Asks whether there is a token, and then whether everything fits.
-fn fit(gap: &Gap, comments: usize, spaces: usize, tokens: usize, found: Option<Found>) -> Result<Found, Refusal>
+fn fit(
+    gap: &Gap,
+    comments: usize,
+    spaces: usize,
+    tokens: usize,
+    found: Option<Found>,
+) -> Result<Found, Refusal>
     ensures { λ r. ⌜ r ≡ fitting (now (gap .entry)) comments spaces tokens found ⌝ }
 {
     match found {
@@ -66,11 +72,26 @@ impl<'t> Reader<'t> {
     {
         let most = if limit < MAX_LEN { limit } else { MAX_LEN };
         if bytes.len() > most {
-            return Reader { opening: Opening::TooLong, source: Source::new(""), builder: TriviaBuilder::new(), ended: false };
+            return Reader {
+                opening: Opening::TooLong,
+                source: Source::new(""),
+                builder: TriviaBuilder::new(),
+                ended: false,
+            };
         }
         match from_utf8(bytes) {
-            Ok(text) => Reader { opening: Opening::Open, source: Source::new(text), builder: TriviaBuilder::new(), ended: false },
-            Err(_) => Reader { opening: Opening::NotUtf8, source: Source::new(""), builder: TriviaBuilder::new(), ended: false },
+            Ok(text) => Reader {
+                opening: Opening::Open,
+                source: Source::new(text),
+                builder: TriviaBuilder::new(),
+                ended: false,
+            },
+            Err(_) => Reader {
+                opening: Opening::NotUtf8,
+                source: Source::new(""),
+                builder: TriviaBuilder::new(),
+                ended: false,
+            },
         }
     }
 
@@ -99,7 +120,13 @@ impl<'t> Reader<'t> {
     }
 
     // What a reading comes to: the token that it finds, or why it is refused.
-    fn look<R: TokenReader>(&self, r: &R, tokens: &Table<'_, TokenRow>, comments: &Table<'_, Comment>, spaces: &Table<'_, Span>) -> Result<Found, Refusal>
+    fn look<R: TokenReader>(
+        &self,
+        r: &R,
+        tokens: &Table<'_, TokenRow>,
+        comments: &Table<'_, Comment>,
+        spaces: &Table<'_, Span>,
+    ) -> Result<Found, Refusal>
         ensures { λ v. ⌜ v ≡ reading (R·TokenReader .banged) (telling (now (r .entry))) (now (self .entry)) (now (tokens .entry)) (now (comments .entry)) (now (spaces .entry)) ⌝ }
     {
         match self.opening {
@@ -110,18 +137,31 @@ impl<'t> Reader<'t> {
                     return Err(Refusal::AfterEof);
                 }
                 let gap = measure_gap(&self.source, comments, spaces);
-                fit(&gap, comments.room(), spaces.room(), tokens.room(), token_after(r, self.source.whole(), &gap))
+                fit(
+                    &gap,
+                    comments.room(),
+                    spaces.room(),
+                    tokens.room(),
+                    token_after(r, self.source.whole(), &gap),
+                )
             }
         }
     }
 
     // Takes a token and its gap on record.
-    fn take_in(&mut self, found: Found, tokens: &mut Table<'_, TokenRow>, comments: &mut Table<'_, Comment>, spaces: &mut Table<'_, Span>)
+    fn take_in(
+        &mut self,
+        found: Found,
+        tokens: &mut Table<'_, TokenRow>,
+        comments: &mut Table<'_, Comment>,
+        spaces: &mut Table<'_, Span>,
+    )
         ensures taken { λ _. ⌜ Taken found (now (self .entry)) (now (self .exit)) (now (tokens .entry)) (now (tokens .exit)) ⌝ }
         ensures lenders { λ _. ⌜ name (now (tokens .exit) .rows) ≡ name (now (tokens .entry) .rows) ⌝ ∗ ⌜ name (now (comments .exit) .rows) ≡ name (now (comments .entry) .rows) ⌝ ∗ ⌜ name (now (spaces .exit) .rows) ≡ name (now (spaces .entry) .rows) ⌝ }
     {
         let mut builder = self.builder;
-        builder.clear_ranges();
+        builder.clear_pure_comments();
+        builder.clear_no_side_effects_comments();
         feed_gap(&mut builder, comments, spaces, &self.source);
         builder.handle_token(comments, found.token);
         let _ = tokens.append(make_row(found, &builder));
@@ -131,7 +171,13 @@ impl<'t> Reader<'t> {
     }
 
     // Reads the next token with its gap.
-    pub fn read<R: TokenReader>(&mut self, r: &R, tokens: &mut Table<'_, TokenRow>, comments: &mut Table<'_, Comment>, spaces: &mut Table<'_, Span>) -> Result<(), Refusal>
+    pub fn read<R: TokenReader>(
+        &mut self,
+        r: &R,
+        tokens: &mut Table<'_, TokenRow>,
+        comments: &mut Table<'_, Comment>,
+        spaces: &mut Table<'_, Span>,
+    ) -> Result<(), Refusal>
         ensures answer { λ v. ⌜ v ≡ unless (reading (R·TokenReader .banged) (telling (now (r .entry))) (now (self .entry)) (now (tokens .entry)) (now (comments .entry)) (now (spaces .entry))) ⌝ }
         ensures left { λ _. ⌜ ReadTo (reading (R·TokenReader .banged) (telling (now (r .entry))) (now (self .entry)) (now (tokens .entry)) (now (comments .entry)) (now (spaces .entry))) (now (self .entry)) (now (self .exit)) (now (tokens .entry)) (now (tokens .exit)) (now (comments .entry)) (now (comments .exit)) (now (spaces .entry)) (now (spaces .exit)) ⌝ }
         ensures lenders { λ _. ⌜ name (now (tokens .exit) .rows) ≡ name (now (tokens .entry) .rows) ⌝ ∗ ⌜ name (now (comments .exit) .rows) ≡ name (now (comments .entry) .rows) ⌝ ∗ ⌜ name (now (spaces .exit) .rows) ≡ name (now (spaces .entry) .rows) ⌝ }

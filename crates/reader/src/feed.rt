@@ -5,7 +5,6 @@ ghost use denote.Ref.{name};
 use builder::span::Span;
 use builder::state::TriviaBuilder;
 use comments::comment::Comment;
-use comments::comment::CommentKind;
 use scanner::piece::Piece;
 use scanner::piece::Scan;
 use scanner::piece::Trivia;
@@ -17,19 +16,26 @@ use table::Table;
 fn short(place: usize) -> u32
     ensures { λ r. ⌜ (place < 2 ^ 32 → r ≡ place) ⌝ }
 {
-    if place < 0x1_0000_0000 { place as u32 } else { 0 }
+    if place < 0x1_0000_0000 {
+        place as u32
+    } else {
+        0
+    }
 }
 
-// A comment of the gap.
-fn feed_comment(builder: &mut TriviaBuilder, comments: &mut Table<'_, Comment>, text: &str, piece: &Piece<'_>, comment: &str, kind: CommentKind)
-    ensures lender { λ _. ⌜ name (now (comments .exit) .rows) ≡ name (now (comments .entry) .rows) ⌝ }
-{
-    let end = short(piece.start.saturating_add(comment.len()));
-    let _ = builder.add_comment(comments, text, short(piece.start), end, kind);
+// Where a comment of the gap ends.
+fn comment_end(piece: &Piece<'_>, comment: &str) -> u32 {
+    short(piece.start.saturating_add(comment.len()))
 }
 
 // One piece of the gap.
-fn feed_piece(builder: &mut TriviaBuilder, comments: &mut Table<'_, Comment>, spaces: &mut Table<'_, Span>, text: &str, piece: &Piece<'_>)
+fn feed_piece(
+    builder: &mut TriviaBuilder,
+    comments: &mut Table<'_, Comment>,
+    spaces: &mut Table<'_, Span>,
+    text: &str,
+    piece: &Piece<'_>,
+)
     ensures lenders { λ _. ⌜ name (now (comments .exit) .rows) ≡ name (now (comments .entry) .rows) ⌝ ∗ ⌜ name (now (spaces .exit) .rows) ≡ name (now (spaces .entry) .rows) ⌝ }
 {
     match piece.trivia {
@@ -42,14 +48,42 @@ fn feed_piece(builder: &mut TriviaBuilder, comments: &mut Table<'_, Comment>, sp
             builder.handle_newline(comments);
             let _ = builder.add_irregular_whitespace(spaces, short(piece.start), short(piece.end));
         }
-        Trivia::LineComment(comment) => feed_comment(builder, comments, text, piece, comment, CommentKind::Line),
-        Trivia::SingleLineBlock(comment) => feed_comment(builder, comments, text, piece, comment, CommentKind::SingleLineBlock),
-        Trivia::MultiLineBlock(comment) => feed_comment(builder, comments, text, piece, comment, CommentKind::MultiLineBlock),
+        Trivia::LineComment(comment) => {
+            let _ = builder.add_line_comment(
+                comments,
+                text,
+                short(piece.start),
+                comment_end(piece, comment),
+            );
+        }
+        Trivia::SingleLineBlock(comment) => {
+            let _ = builder.add_block_comment(
+                comments,
+                text,
+                short(piece.start),
+                comment_end(piece, comment),
+                false,
+            );
+        }
+        Trivia::MultiLineBlock(comment) => {
+            let _ = builder.add_block_comment(
+                comments,
+                text,
+                short(piece.start),
+                comment_end(piece, comment),
+                true,
+            );
+        }
     }
 }
 
 // All pieces of the gap at the source's place.
-pub(crate) fn feed_gap(builder: &mut TriviaBuilder, comments: &mut Table<'_, Comment>, spaces: &mut Table<'_, Span>, source: &Source<'_>)
+pub(crate) fn feed_gap(
+    builder: &mut TriviaBuilder,
+    comments: &mut Table<'_, Comment>,
+    spaces: &mut Table<'_, Span>,
+    source: &Source<'_>,
+)
     ensures lenders { λ _. ⌜ name (now (comments .exit) .rows) ≡ name (now (comments .entry) .rows) ⌝ ∗ ⌜ name (now (spaces .exit) .rows) ≡ name (now (spaces .entry) .rows) ⌝ }
 {
     let mut ahead = *source;

@@ -85,14 +85,25 @@ fn one_more(count: usize, more: bool) -> usize
 }
 
 // The gap with one piece more.
-fn count_piece(gap: Gap, piece: &Piece<'_>, comments: &Table<'_, Comment>, spaces: &Table<'_, Span>) -> Gap
+fn count_piece(
+    gap: Gap,
+    piece: &Piece<'_>,
+    comments: &Table<'_, Comment>,
+    spaces: &Table<'_, Span>,
+) -> Gap
     requires { ⌜ gap .comments < 2 ^ 32 ⌝ ∗ ⌜ gap .spaces < 2 ^ 32 ⌝ }
     ensures { λ r. ⌜ r ≡ counted (newIn commentStart (now (comments .entry))) (newIn spanStart (now (spaces .entry))) gap (now (piece .entry) .start) (now (piece .entry) .end) (shapeOf (now (piece .entry) .trivia)) ⌝ }
 {
     Gap {
         end: piece.end,
-        comments: one_more(gap.comments, is_comment(piece) && comments.is_new(piece.start)),
-        spaces: one_more(gap.spaces, is_irregular(piece) && spaces.is_new(piece.start)),
+        comments: one_more(
+            gap.comments,
+            is_comment(piece) && comments.is_new(piece.start),
+        ),
+        spaces: one_more(
+            gap.spaces,
+            is_irregular(piece) && spaces.is_new(piece.start),
+        ),
         newline: gap.newline || has_newline(piece),
         unterminated: false,
     }
@@ -102,16 +113,32 @@ fn count_piece(gap: Gap, piece: &Piece<'_>, comments: &Table<'_, Comment>, space
 fn end_openly(gap: Gap, multi: bool) -> Gap
     ensures { λ r. ⌜ r ≡ unended gap multi ⌝ }
 {
-    Gap { end: gap.end, comments: gap.comments, spaces: gap.spaces, newline: gap.newline || multi, unterminated: true }
+    Gap {
+        end: gap.end,
+        comments: gap.comments,
+        spaces: gap.spaces,
+        newline: gap.newline || multi,
+        unterminated: true,
+    }
 }
 
 // The gap at the source's place.
-pub(crate) fn measure_gap(source: &Source<'_>, comments: &Table<'_, Comment>, spaces: &Table<'_, Span>) -> Gap
+pub(crate) fn measure_gap(
+    source: &Source<'_>,
+    comments: &Table<'_, Comment>,
+    spaces: &Table<'_, Span>,
+) -> Gap
     ensures value { λ r. ⌜ r ≡ gapAt (newIn commentStart (now (comments .entry))) (newIn spanStart (now (spaces .entry))) (textOf (now (source .entry))) (placeOf (now (source .entry))) ⌝ }
     ensures cut { λ r. ⌜ Boundary (textOf (now (source .entry))) (r .end) ⌝ }
 {
     let mut ahead = *source;
-    let mut gap = Gap { end: ahead.offset_usize(), comments: 0, spaces: 0, newline: false, unterminated: false };
+    let mut gap = Gap {
+        end: ahead.offset_usize(),
+        comments: 0,
+        spaces: 0,
+        newline: false,
+        unterminated: false,
+    };
     loop {
         match piece_at(&ahead) {
             Scan::Nothing => return gap,

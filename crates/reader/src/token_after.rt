@@ -12,7 +12,6 @@ use crate::token_row::Found;
 use kinds::kind::Kind;
 use kinds::token::Token;
 use scanner::comment::read_hashbang_comment;
-
 use tokens::token_reader::TokenReader;
 
 fn opens_hashbang(text: &[u8]) -> bool
@@ -25,11 +24,25 @@ fn opens_hashbang(text: &[u8]) -> bool
     text[0] == b'#' && text[1] == b'!'
 }
 
-fn make_found(kind: Kind, start: usize, end: usize, is_on_new_line: bool, unterminated: bool) -> Found
+fn make_found(
+    kind: Kind,
+    start: usize,
+    end: usize,
+    is_on_new_line: bool,
+    unterminated: bool,
+) -> Found
     requires { ⌜ start < 2 ^ 32 ⌝ ∗ ⌜ end < 2 ^ 32 ⌝ }
     ensures { λ r. ⌜ r ≡ found kind start end «is_on_new_line» unterminated ⌝ }
 {
-    Found { token: Token { kind, start: start as u32, end: end as u32, is_on_new_line }, unterminated }
+    Found {
+        token: Token {
+            kind,
+            start: start as u32,
+            end: end as u32,
+            is_on_new_line,
+        },
+        unterminated,
+    }
 }
 
 fn at_hashbang<R: TokenReader>(_r: &R, text: &[u8], end: usize) -> bool
@@ -79,7 +92,13 @@ pub(crate) fn token_after<R: TokenReader>(r: &R, text: &str, gap: &Gap) -> Optio
     ensures lands { λ v. ⌜ FoundLands (now (text .entry)) v ⌝ }
 {
     if at_eof(gap, text.len()) {
-        return Some(make_found(Kind::Eof, gap.end, text.len(), gap.newline, gap.unterminated));
+        return Some(make_found(
+            Kind::Eof,
+            gap.end,
+            text.len(),
+            gap.newline,
+            gap.unterminated,
+        ));
     }
     if at_hashbang(r, text.as_bytes(), gap.end) {
         return Some(hashbang_line(text, gap));

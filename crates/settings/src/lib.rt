@@ -22,13 +22,22 @@ use tokens::json::JsonReader;
 
 // The longest text in bytes, the sizes of the tables, and a buffer that every listing of such tables fits.
 pub const LIMIT: usize = 32_768;
+
 pub const COMMENTS: usize = 1_024;
+
 pub const SPACES: usize = 256;
+
 pub const TOKENS: usize = 1_024;
+
 pub const LISTING: usize = 65_536;
 
 const NO_TOKEN: TokenRow = TokenRow {
-    token: Token { kind: Kind::Eof, start: 0, end: 0, is_on_new_line: false },
+    token: Token {
+        kind: Kind::Eof,
+        start: 0,
+        end: 0,
+        is_on_new_line: false,
+    },
     pure_comments: None,
     no_side_effects_comments: None,
     unterminated: false,
@@ -46,8 +55,12 @@ const NO_COMMENT: Comment = Comment {
 };
 
 // Reads tokens up to Eof; a reading that succeeds takes a row, so there are no more turns than rows and one.
-fn read_to_eof(reader: &mut Reader<'_>, tokens: &mut Table<'_, TokenRow>, comments: &mut Table<'_, Comment>, spaces: &mut Table<'_, Span>) -> Result<(), Refusal>
-{
+fn read_to_eof(
+    reader: &mut Reader<'_>,
+    tokens: &mut Table<'_, TokenRow>,
+    comments: &mut Table<'_, Comment>,
+    spaces: &mut Table<'_, Span>,
+) -> Result<(), Refusal> {
     for _ in 0..=TOKENS {
         if reader.has_ended() {
             return Ok(());

@@ -18,7 +18,7 @@ use Rattle.tokens.specs.declared.json.ByteClass.{ByteClass}
 use Rattle.tokens.specs.declared.json.ByteClass.the-variants.{Digit, Letter}
 use Rattle.tokens.specs.declared.json.Exponent.{Exponent}
 
--- the byte at a place; past the end it is 0, which begins no token and is in no class below
+-- the byte at a place; past the end it is 0, which begins no token
 abbrev pub byteAt : List ℕ → ℕ → ℕ
 byteAt text place = getD text place 0
 

@@ -15,7 +15,7 @@ pub struct Told {
 }
 
 pub trait TokenReader {
-    // Whether `#!` at the start of a text opens a comment.
+    // Whether `#!` at the start of a text opens a hashbang line, which is a token.
     const HASHBANG: bool;
 
     // The same for clauses, which cannot name an associated constant.

@@ -15,10 +15,11 @@ returns c =
     let ss = keptOf (c .args .spaces .now) in
     record {
       wrote = λ buffer xs h.
-        let front : List ℕ = (xs ++ linesOf commentLine cs) ++ linesOf spaceLine ss in
-        let two : Wrote buffer front (c .put-rows-2 .last .out) = c .put-rows-2 .ensures .wrote buffer _ (c .put-rows .ensures .wrote buffer xs h) in
-        let T : TokenRow → Type 0 = λ r. Wrote buffer (front ++ unterminatedLine r) (c .put-unterminated .last .out) in
-        let three = subst T (c .last-row .ensures) (c .put-unterminated .ensures .wrote buffer _ two) in
-        let E : List ℕ → Type 0 = λ fs. Wrote buffer ((front ++ unterminatedLine (lastRow (keptOf (c .args .tokens .now)))) ++ lineOf 69 fs) (c .put-line .last .self) in
-        wrote-four buffer xs (linesOf commentLine cs) (linesOf spaceLine ss) (unterminatedLine (lastRow (keptOf (c .args .tokens .now)))) (lineOf 69 (endFields cs ss (c .args .text-len))) _ (subst E (c .end-fields .ensures) (c .put-line .ensures .wrote buffer _ three));
-      lender = search needs }
+          let front : List ℕ = (xs ++ linesOf commentLine cs) ++ linesOf spaceLine ss in
+          let two : Wrote buffer front (c .put-rows-2 .last .out) = c .put-rows-2 .ensures .wrote buffer _ (c .put-rows .ensures .wrote buffer xs h) in
+          let T : TokenRow → Type 0 = λ r. Wrote buffer (front ++ unterminatedLine r) (c .put-unterminated .last .out) in
+          let three = subst T (c .last-row .ensures) (c .put-unterminated .ensures .wrote buffer _ two) in
+          let E : List ℕ → Type 0 = λ fs. Wrote buffer ((front ++ unterminatedLine (lastRow (keptOf (c .args .tokens .now)))) ++ lineOf 69 fs) (c .put-line .last .self) in
+          wrote-four buffer xs (linesOf commentLine cs) (linesOf spaceLine ss) (unterminatedLine (lastRow (keptOf (c .args .tokens .now)))) (lineOf 69 (endFields cs ss (c .args .text-len))) _ (subst E (c .end-fields .ensures) (c .put-line .ensures .wrote buffer _ three));
+      lender = search needs;
+    }

@@ -34,7 +34,8 @@ loop-gap-again c =
     let lands = c .in-Found .ensures tt .lands in
     let goes : placeOf (c .set-position .last .self) ≡ end = moves (c .set-position .result) _ _ _ _ (c .set-position .ensures .place) (lands .1) in
     let long : length (textOf (c .loop-gap .ahead)) ≡ length text = ap length same in
-    let Goes : Gap → Type 0 = Going newComment newSpace text (placeOf (c .args .source .now)) in
-    (c .set-position .ensures .text ∙ c .loop-gap .inv .0,
+    let Goes : Gap → Type 0 = Going newComment newSpace text (placeOf (c .args .source .now)) in (
+      c .set-position .ensures .text ∙ c .loop-gap .inv .0,
       ap (λ (g : Gap). g .end) (c .count-piece-gap .ensures) ∙ sym goes,
-      subst Goes (sym (c .count-piece-gap .ensures)) (going-more newComment newSpace text _ (c .loop-gap .gap) start end shape stands (omega (arith, at, lands .0)) (omega (arith, long, lands .1 .0)) (c .loop-gap .inv .2)))
+      subst Goes (sym (c .count-piece-gap .ensures)) (going-more newComment newSpace text _ (c .loop-gap .gap) start end shape stands (omega (arith, at, lands .0)) (omega (arith, long, lands .1 .0)) (c .loop-gap .inv .2)),
+    )

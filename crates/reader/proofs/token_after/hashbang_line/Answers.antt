@@ -26,4 +26,5 @@ returns c =
     let is = c .make-found .ensures in
     record {
       value = is ∙ ap (λ (k : ℕ). found HashbangComment (c .args .gap .now .end) k (c .args .gap .now .newline) false) to;
-      lands = subst Cut (sym (ap (λ (f : Found). f .token .end) is)) cut }
+      lands = subst Cut (sym (ap (λ (f : Found). f .token .end) is)) cut;
+    }

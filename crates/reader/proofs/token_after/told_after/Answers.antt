@@ -28,4 +28,5 @@ returns-in-Some g c =
     let Cut : ℕ → Type 0 = λ k. Boundary (c .args .text .now) k in
     record {
       value = ap (λ (f : Found). Some f) is ∙ ap (toldAt (c .args .gap .now)) (c .in-Some .ensures tt);
-      lands = subst Cut (sym (ap (λ (f : Found). f .token .end) is)) (fair .lands) }
+      lands = subst Cut (sym (ap (λ (f : Found). f .token .end) is)) (fair .lands);
+    }
