@@ -1,6 +1,7 @@
 // What an event does, by the builder's two flags and whether comments wait to be attached.
 ghost use mathlib.Core.Path.{_≡_};
-ghost use Rattle.builder.specs.Events.{effectOf};
+ghost use mathlib.Core.Bool.{true, false};
+ghost use Rattle.builder.specs.Events.{becomes, effectOf};
 
 #[derive(Clone, Copy)]
 pub enum Event {
@@ -30,6 +31,28 @@ pub struct Effect {
     pub attach: Attach,
 }
 
+// After a line break, or a line comment, which ends with one.
+fn on_new_line(attach: Attach) -> Effect
+    ensures { λ r. ⌜ r ≡ becomes true true attach ⌝ }
+{
+    Effect {
+        saw_newline: true,
+        saw_newline_for_comment: true,
+        attach,
+    }
+}
+
+// After a token.
+fn on_same_line(attach: Attach) -> Effect
+    ensures { λ r. ⌜ r ≡ becomes false false attach ⌝ }
+{
+    Effect {
+        saw_newline: false,
+        saw_newline_for_comment: false,
+        attach,
+    }
+}
+
 pub fn match_event(
     saw_newline: bool,
     saw_newline_for_comment: bool,
@@ -39,45 +62,17 @@ pub fn match_event(
     ensures { λ r. ⌜ r ≡ effectOf «saw_newline» «saw_newline_for_comment» pending event ⌝ }
 {
     match (saw_newline, saw_newline_for_comment, pending, event) {
-        (_, _, false, Event::Newline) => Effect {
-            saw_newline: true,
-            saw_newline_for_comment: true,
-            attach: Attach::Wait,
-        },
-        (true, _, true, Event::Newline) => Effect {
-            saw_newline: true,
-            saw_newline_for_comment: true,
-            attach: Attach::MarkLast,
-        },
-        (false, _, true, Event::Newline) => Effect {
-            saw_newline: true,
-            saw_newline_for_comment: true,
-            attach: Attach::EndLine,
-        },
-        (true, _, _, Event::LineComment) => Effect {
-            saw_newline: true,
-            saw_newline_for_comment: true,
-            attach: Attach::Wait,
-        },
-        (false, _, _, Event::LineComment) => Effect {
-            saw_newline: true,
-            saw_newline_for_comment: true,
-            attach: Attach::EndLine,
-        },
+        (_, _, false, Event::Newline) => on_new_line(Attach::Wait),
+        (true, _, true, Event::Newline) => on_new_line(Attach::MarkLast),
+        (false, _, true, Event::Newline) => on_new_line(Attach::EndLine),
+        (true, _, _, Event::LineComment) => on_new_line(Attach::Wait),
+        (false, _, _, Event::LineComment) => on_new_line(Attach::EndLine),
         (_, _, _, Event::BlockComment) => Effect {
             saw_newline,
             saw_newline_for_comment: false,
             attach: Attach::Wait,
         },
-        (_, _, false, Event::Token) => Effect {
-            saw_newline: false,
-            saw_newline_for_comment: false,
-            attach: Attach::Wait,
-        },
-        (_, _, true, Event::Token) => Effect {
-            saw_newline: false,
-            saw_newline_for_comment: false,
-            attach: Attach::ToToken,
-        },
+        (_, _, false, Event::Token) => on_same_line(Attach::Wait),
+        (_, _, true, Event::Token) => on_same_line(Attach::ToToken),
     }
 }

@@ -47,16 +47,16 @@ pub fn skip_single_line_comment(text: &[u8], from: usize) -> usize
     ensures stops { λ r. ⌜ (r < length (now (text .entry)) → 0 < terminator (drop r (now (text .entry)))) ⌝ }
 {
     let table = search::line_break_table();
-    let mut i = from;
+    let mut end = from;
     loop {
-        i = search::byte_search(table, text, i);
-        if i >= text.len() {
-            return i;
+        end = search::byte_search(table, text, end);
+        if end >= text.len() {
+            return end;
         }
-        if terminator_at(text, i) > 0 {
-            return i;
+        if terminator_at(text, end) > 0 {
+            return end;
         }
-        i += 1;
+        end += 1;
     }
 }
 

@@ -5,8 +5,8 @@ use lib.ListN.{length, drop}
 use Rattle.scanner.specs.Ecma.{lineEnd}
 use Rattle.scanner.proofs.comment.skip_single_line_comment.Given as given
 
-abbrev pub Inv-loop-i : given.InvT-loop-i
-Inv-loop-i l = (l .from ≤ l .i) × (l .from ≤ length (l .text) → l .i ≤ length (l .text)) × (l .i + lineEnd (drop (l .i) (l .text)) ≡ l .from + lineEnd (drop (l .from) (l .text)))
+abbrev pub Inv-loop-end : given.InvT-loop-end
+Inv-loop-end l = (l .from ≤ l .end) × (l .from ≤ length (l .text) → l .end ≤ length (l .text)) × (l .end + lineEnd (drop (l .end) (l .text)) ≡ l .from + lineEnd (drop (l .from) (l .text)))
 
-abbrev pub μ-loop-i : given.MeasureT-loop-i
-μ-loop-i l = length (l .text) - l .i
+abbrev pub μ-loop-end : given.MeasureT-loop-end
+μ-loop-end l = length (l .text) - l .end
