@@ -1,3 +1,4 @@
 pub mod Gap
 pub mod Reading
+pub mod Feeding
 pub mod View

@@ -7,6 +7,7 @@ use lib.Dec.{eqb}
 use lib.ListN.{length}
 use Rattle.std.specs.Text.{Utf8}
 use Rattle.std.specs.Words.{Boundary}
+use Rattle.std.specs.declared.option.Option.the-variants.{None}
 use Rattle.std.specs.declared.result.Result.{Result}
 use Rattle.std.specs.declared.result.Result.the-variants.{Ok, Err}
 use Rattle.kinds.specs.Kinds.{numberOf}
@@ -19,13 +20,14 @@ use Rattle.table.specs.Order.{starts, follows, outcome, rowsWith, countWith}
 use Rattle.comments.specs.declared.comment.Comment.{Comment}
 use Rattle.builder.specs.declared.span.Span.{Span}
 use Rattle.builder.specs.declared.state.TriviaBuilder.{TriviaBuilder}
-use Rattle.builder.specs.Building.{opened}
+use Rattle.builder.specs.Building.{opened, withRanges, tokenTo}
 use Rattle.tokens.specs.Telling.{Telling}
 use Rattle.reader.specs.declared.Opening.the-variants.{Open, TooLong, NotUtf8}
 use Rattle.reader.specs.declared.Reader.{Reader}
 use Rattle.reader.specs.declared.gap.Gap.{Gap}
 use Rattle.reader.specs.declared.token_row.Found.{Found}
 use Rattle.reader.specs.declared.token_row.TokenRow.{TokenRow}
+use Rattle.reader.specs.Feeding.{Tables, tablesOf, stated, Fed}
 use Rattle.reader.specs.Gap.{gapAt}
 use Rattle.reader.specs.Reading.{tokenAfter, fitting, verdict}
 
@@ -73,18 +75,27 @@ rowOf f b = record { token = f .token; «pure_comments» = b .«pure_comments»;
 abbrev pub tokenOutcome : Table TokenRow → TokenRow → Appended
 tokenOutcome t row = outcome (λ (r : TokenRow). r .token .start) (rowsOf t) (countOf t) row
 
--- a token was taken: its row is appended, and the reader goes on after it
-pub record Taken (f : Found) (r after : Reader) (tokens more : Table TokenRow) : Type 0 where
+-- the builder of a reader with its tables, both ranges emptied
+abbrev pub tablesBefore : Reader → Table Comment → Table Span → Tables
+tablesBefore r comments spaces = tablesOf (withRanges (r .builder) None None) comments spaces
+
+-- the pieces of the gap and then the token are fed to the builder
+abbrev pub FedToken : Found → Reader → Reader → Table Comment → Table Comment → Table Span → Table Span → Type 0
+FedToken f r after comments comments′ spaces spaces′ =
+    (m : Tables) × Fed (readerText r) (readerPlace r) (tablesBefore r comments spaces) m × (tablesOf (after .builder) comments′ spaces′ ≡ stated (tokenTo (m .state) (f .token)) m)
+
+-- a token was taken: its gap and it are fed to the builder, its row is appended, and the reader goes on after it
+pub record Taken (f : Found) (r after : Reader) (tokens more : Table TokenRow) (comments comments′ : Table Comment) (spaces spaces′ : Table Span) : Type 0 where
   pub opening : after .opening ≡ r .opening
   pub text : after .source .text ≡ r .source .text
   pub place : Boundary (readerText r) (f .token .end) → readerPlace after ≡ f .token .end
   pub ended : after .ended ≡ eqb (numberOf (f .token .kind)) 0
-  pub before : after .builder .«previous_token» ≡ f .token
+  pub fed : FedToken f r after comments comments′ spaces spaces′
   pub rows : rowsOf more ≡ rowsWith (tokenOutcome tokens (rowOf f (after .builder))) (rowsOf tokens) (countOf tokens) (rowOf f (after .builder))
   pub count : countOf more ≡ countWith (tokenOutcome tokens (rowOf f (after .builder))) (countOf tokens)
 
 -- what a reading leaves behind
 abbrev pub ReadTo : Result Found Refusal → Reader → Reader → Table TokenRow → Table TokenRow → Table Comment → Table Comment → Table Span → Table Span → Type 0
-ReadTo (Ok f) r r′ tokens tokens′ comments comments′ spaces spaces′ = Taken f r r′ tokens tokens′
+ReadTo (Ok f) r r′ tokens tokens′ comments comments′ spaces spaces′ = Taken f r r′ tokens tokens′ comments comments′ spaces spaces′
 ReadTo (Err e) r r′ tokens tokens′ comments comments′ spaces spaces′ =
     (r′ ≡ r) × (rowsOf tokens′ ≡ rowsOf tokens) × (countOf tokens′ ≡ countOf tokens) × (rowsOf comments′ ≡ rowsOf comments) × (countOf comments′ ≡ countOf comments) × (rowsOf spaces′ ≡ rowsOf spaces) × (countOf spaces′ ≡ countOf spaces)

@@ -156,7 +156,7 @@ impl<'t> Reader<'t> {
         comments: &mut Table<'_, Comment>,
         spaces: &mut Table<'_, Span>,
     )
-        ensures taken { λ _. ⌜ Taken found (now (self .entry)) (now (self .exit)) (now (tokens .entry)) (now (tokens .exit)) ⌝ }
+        ensures taken { λ _. ⌜ Taken found (now (self .entry)) (now (self .exit)) (now (tokens .entry)) (now (tokens .exit)) (now (comments .entry)) (now (comments .exit)) (now (spaces .entry)) (now (spaces .exit)) ⌝ }
         ensures lenders { λ _. ⌜ name (now (tokens .exit) .rows) ≡ name (now (tokens .entry) .rows) ⌝ ∗ ⌜ name (now (comments .exit) .rows) ≡ name (now (comments .entry) .rows) ⌝ ∗ ⌜ name (now (spaces .exit) .rows) ≡ name (now (spaces .entry) .rows) ⌝ }
     {
         let mut builder = self.builder;

@@ -2,6 +2,9 @@
 ghost use mathlib.Core.Path.{_≡_};
 ghost use Prim.Native.Nat.{_<_, _^_};
 ghost use denote.Ref.{name};
+ghost use Rattle.source.specs.View.{textOf, placeOf};
+ghost use Rattle.scanner.specs.View.{shapeOf};
+ghost use Rattle.reader.specs.Feeding.{shortOf, commentEnd, tablesOf, FedBy, Fed};
 use builder::span::Span;
 use builder::state::TriviaBuilder;
 use comments::comment::Comment;
@@ -14,7 +17,7 @@ use table::Table;
 
 // A place as a row holds it; places of a text fit.
 fn short(place: usize) -> u32
-    ensures { λ r. ⌜ (place < 2 ^ 32 → r ≡ place) ⌝ }
+    ensures { λ r. ⌜ r ≡ shortOf place ⌝ }
 {
     if place < 0x1_0000_0000 {
         place as u32
@@ -23,9 +26,11 @@ fn short(place: usize) -> u32
     }
 }
 
-// Where a comment of the gap ends.
-fn comment_end(piece: &Piece<'_>, comment: &str) -> u32 {
-    short(piece.start.saturating_add(comment.len()))
+// Where a comment ends that starts at a place.
+fn comment_end(start: usize, comment: &str) -> u32
+    ensures { λ r. ⌜ r ≡ commentEnd start (now (comment .entry)) ⌝ }
+{
+    short(start.saturating_add(comment.len()))
 }
 
 // One piece of the gap.
@@ -36,6 +41,7 @@ fn feed_piece(
     text: &str,
     piece: &Piece<'_>,
 )
+    ensures fed { λ _. ⌜ FedBy (now (text .entry)) (now (piece .entry) .start) (now (piece .entry) .end) (shapeOf (now (piece .entry) .trivia)) (tablesOf (now (builder .entry)) (now (comments .entry)) (now (spaces .entry))) (tablesOf (now (builder .exit)) (now (comments .exit)) (now (spaces .exit))) ⌝ }
     ensures lenders { λ _. ⌜ name (now (comments .exit) .rows) ≡ name (now (comments .entry) .rows) ⌝ ∗ ⌜ name (now (spaces .exit) .rows) ≡ name (now (spaces .entry) .rows) ⌝ }
 {
     match piece.trivia {
@@ -49,30 +55,16 @@ fn feed_piece(
             let _ = builder.add_irregular_whitespace(spaces, short(piece.start), short(piece.end));
         }
         Trivia::LineComment(comment) => {
-            let _ = builder.add_line_comment(
-                comments,
-                text,
-                short(piece.start),
-                comment_end(piece, comment),
-            );
+            let end = comment_end(piece.start, comment);
+            let _ = builder.add_line_comment(comments, text, short(piece.start), end);
         }
         Trivia::SingleLineBlock(comment) => {
-            let _ = builder.add_block_comment(
-                comments,
-                text,
-                short(piece.start),
-                comment_end(piece, comment),
-                false,
-            );
+            let end = comment_end(piece.start, comment);
+            let _ = builder.add_block_comment(comments, text, short(piece.start), end, false);
         }
         Trivia::MultiLineBlock(comment) => {
-            let _ = builder.add_block_comment(
-                comments,
-                text,
-                short(piece.start),
-                comment_end(piece, comment),
-                true,
-            );
+            let end = comment_end(piece.start, comment);
+            let _ = builder.add_block_comment(comments, text, short(piece.start), end, true);
         }
     }
 }
@@ -84,6 +76,7 @@ pub(crate) fn feed_gap(
     spaces: &mut Table<'_, Span>,
     source: &Source<'_>,
 )
+    ensures fed { λ _. ⌜ Fed (textOf (now (source .entry))) (placeOf (now (source .entry))) (tablesOf (now (builder .entry)) (now (comments .entry)) (now (spaces .entry))) (tablesOf (now (builder .exit)) (now (comments .exit)) (now (spaces .exit))) ⌝ }
     ensures lenders { λ _. ⌜ name (now (comments .exit) .rows) ≡ name (now (comments .entry) .rows) ⌝ ∗ ⌜ name (now (spaces .exit) .rows) ≡ name (now (spaces .entry) .rows) ⌝ }
 {
     let mut ahead = *source;
