@@ -1,6 +1,13 @@
 // A settings text, JSON with comments, read to its end in tables of fixed sizes and listed.
-ghost use Prim.Native.Nat.{_≤_};
+ghost use mathlib.Core.Path.{_≡_};
+ghost use Prim.Native.Nat.{_≤_, _<_};
 ghost use lib.ListN.{length};
+ghost use Rattle.std.specs.Text.{Utf8};
+ghost use Rattle.std.specs.Vec.{refused};
+ghost use Rattle.std.specs.declared.result.Result.the-variants.{Err};
+ghost use Rattle.refusals.specs.declared.Refusal.the-variants.{TooLong, NotUtf8};
+ghost use Rattle.listing.specs.Bytes.{laid};
+ghost use Rattle.listing.specs.Listing.{refusalLine};
 use builder::span::Span;
 use builder::span::SpanRow;
 use comments::comment::Comment;
@@ -71,7 +78,11 @@ fn read_to_eof(
 }
 
 // Reads a text to its end and lists it.
-fn list_settings(text: &[u8], out: &mut [u8]) -> Result<usize, Refusal> {
+fn list_settings(text: &[u8], out: &mut [u8]) -> Result<usize, Refusal>
+    ensures too_long { λ r. ⌜ (32768 < length (now (text .entry)) → r ≡ Err TooLong) ⌝ }
+    ensures not_utf8 { λ r. ⌜ (length (now (text .entry)) ≤ 32768 → (Utf8 (now (text .entry)) → ⊥) → r ≡ Err NotUtf8) ⌝ }
+    ensures refused { λ r. ⌜ refused r (λ _. now (out .exit) ≡ now (out .entry)) ⌝ }
+{
     let mut token_rows = [NO_TOKEN; TOKENS];
     let mut comment_rows = [NO_COMMENT; COMMENTS];
     let mut space_rows = [Span { start: 0, end: 0 }; SPACES];
@@ -79,12 +90,17 @@ fn list_settings(text: &[u8], out: &mut [u8]) -> Result<usize, Refusal> {
     let mut comments = Table::new(&mut comment_rows);
     let mut spaces = Table::new(&mut space_rows);
     let mut reader = Reader::open(text, LIMIT);
+    if let Some(refusal) = reader.refusal() {
+        return Err(refusal);
+    }
     read_to_eof(&mut reader, &mut tokens, &mut comments, &mut spaces)?;
     list(&reader, &tokens, &comments, &spaces, out)
 }
 
 // What the program prints of a text: its listing, or the line of the refusal. The answer is how many bytes of the buffer that takes.
 pub fn answer(text: &[u8], out: &mut [u8]) -> usize
+    ensures too_long { λ _. ⌜ (32768 < length (now (text .entry)) → now (out .exit) ≡ laid (now (out .entry)) 0 (refusalLine TooLong)) ⌝ }
+    ensures not_utf8 { λ _. ⌜ (length (now (text .entry)) ≤ 32768 → (Utf8 (now (text .entry)) → ⊥) → now (out .exit) ≡ laid (now (out .entry)) 0 (refusalLine NotUtf8)) ⌝ }
     ensures within { λ r. ⌜ r ≤ length (now (out .entry)) ⌝ }
 {
     let n = match list_settings(text, out) {

@@ -1,2 +1,3 @@
 mod Last
 mod Halving
+mod Rise

@@ -5,7 +5,7 @@ ghost use Prim.Native.Nat.{ℕ, min, _+_, _-_, _<_, _≤_, _^_};
 ghost use lib.ListN.{length, take, getD, set};
 ghost use denote.Ref.{name};
 ghost use Rattle.std.specs.Options.{Cases};
-ghost use Rattle.table.specs.Order.{starts, follows, outcome, rowsWith, countWith, Parted, Found};
+ghost use Rattle.table.specs.Order.{starts, follows, outcome, rowsWith, countWith, Rising, Parted, Found};
 ghost use Rattle.table.specs.View.{rowsOf, countOf, keptOf};
 
 // A row that has a start.
@@ -174,6 +174,7 @@ impl<'a, T: Row + Copy> Table<'a, T> {
         ensures answer { λ r. ⌜ r ≡ outcome from (rowsOf (now (self .entry))) (countOf (now (self .entry))) row ⌝ }
         ensures rows { λ r. ⌜ rowsOf (now (self .exit)) ≡ rowsWith r (rowsOf (now (self .entry))) (countOf (now (self .entry))) row ⌝ }
         ensures count { λ r. ⌜ countOf (now (self .exit)) ≡ countWith r (countOf (now (self .entry))) ⌝ }
+        ensures rising { λ _. ⌜ (Rising (starts from (rowsOf (now (self .entry))) (countOf (now (self .entry)))) → Rising (starts from (rowsOf (now (self .exit))) (countOf (now (self .exit))))) ⌝ }
         ensures lender { λ r. ⌜ name (now (self .exit) .rows) ≡ name (now (self .entry) .rows) ⌝ }
     {
         let n = self.count;
