@@ -1,7 +1,7 @@
 -- The row on record that has a span.
 use mathlib.Core.Path.{_≡_, refl, sym, ap, subst, _∙_}
 use mathlib.Core.List.{List, map}
-use mathlib.Core.Logic.{⊎-elim}
+use mathlib.Core.Logic.{inl, inr, ⊎-elim}
 use Prim.Native.Nat.{ℕ, _<_, _≤_}
 use native.Mathlib.Omega.{arith}
 use lib.ListN.{length, getD}
@@ -45,8 +45,9 @@ module _ (kept : List Comment) (row : Comment) where
   again-some i b after h is = record {
     hit = λ ordered j k. is ∙ ap (ranged b (row .content)) (same-row i j ordered (h .0) (k .0) (h .1 ∙ sym (k .1)));
     miss = λ ordered none. absurd (none i h);
+          either = inr (i, h, is);
     same = (ap (λ (x : TriviaBuilder). x .processed) is, ap (λ (x : TriviaBuilder). x .«saw_newline») is, ap (λ (x : TriviaBuilder). x .«saw_newline_for_comment») is, ap (λ (x : TriviaBuilder). x .«previous_token») is);
   }
 
   pub again-none : (b : TriviaBuilder) → SpanAt kept row None → Again kept row b b
-  again-none b h = record { hit = λ ordered j k. absurd (h ordered j k); miss = λ ordered none. refl; same = (refl, refl, refl, refl) }
+  again-none b h = record { hit = λ ordered j k. absurd (h ordered j k); miss = λ ordered none. refl; either = inl refl; same = (refl, refl, refl, refl) }

@@ -1,6 +1,7 @@
 -- What each event makes of the builder and its rows.
 use mathlib.Core.Bool.{Bool, true, false, cond, not, _&&_, _||_}
 use mathlib.Core.List.{List, map}
+use mathlib.Core.Logic.{_⊎_}
 use mathlib.Core.Path.{_≡_}
 use Prim.Native.Nat.{ℕ, _+_, _<_}
 use lib.Dec.{eqb, ltb}
@@ -217,6 +218,7 @@ rangedAt (Some i) b content = ranged b content i
 pub record Again (kept : List Comment) (row : Comment) (b after : TriviaBuilder) : Type 0 where
   pub hit : Ordered kept → (i : ℕ) → HasSpan kept row i → after ≡ ranged b (row .content) i
   pub miss : Ordered kept → ((i : ℕ) → HasSpan kept row i → ⊥) → after ≡ b
+  pub either : (after ≡ b) ⊎ ((i : ℕ) × HasSpan kept row i × (after ≡ ranged b (row .content) i))
   pub same : (after .processed ≡ b .processed) × (after .«saw_newline» ≡ b .«saw_newline») × (after .«saw_newline_for_comment» ≡ b .«saw_newline_for_comment») × (after .«previous_token» ≡ b .«previous_token»)
 
 -- a comment by what came of its row: added, on record already or not wanted, or no room
