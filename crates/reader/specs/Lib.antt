@@ -2,3 +2,4 @@ pub mod Gap
 pub mod Reading
 pub mod Feeding
 pub mod View
+pub mod Examples

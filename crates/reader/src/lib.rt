@@ -3,6 +3,7 @@ use builder::state::TriviaBuilder;
 use source::source::Source;
 
 pub mod calls;
+pub mod examples;
 pub mod feed;
 pub mod gap;
 pub mod token_after;
