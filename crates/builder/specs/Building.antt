@@ -210,10 +210,6 @@ abbrev pub SpanAt : List Comment → Comment → Option ℕ → Type 0
 SpanAt kept row None = Ordered kept → (i : ℕ) → HasSpan kept row i → ⊥
 SpanAt kept row (Some i) = HasSpan kept row i
 
-abbrev pub rangedAt : Option ℕ → TriviaBuilder → CommentContent → TriviaBuilder
-rangedAt None b content = b
-rangedAt (Some i) b content = ranged b content i
-
 -- a comment that is on record already: its freshly found class extends the range by that row
 pub record Again (kept : List Comment) (row : Comment) (b after : TriviaBuilder) : Type 0 where
   pub hit : Ordered kept → (i : ℕ) → HasSpan kept row i → after ≡ ranged b (row .content) i

@@ -1,3 +1,2 @@
 mod Gaps
-mod Tokens
 mod Feeds
