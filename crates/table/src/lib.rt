@@ -36,7 +36,7 @@ fn recorded(count: usize, len: usize) -> usize
 
 // Where the last row on record starts.
 fn last_of<T: Row + Copy>(rows: &[T], count: usize) -> Option<usize>
-    ensures { result ≡ last_start (starts from rows.now count) }
+    ensures { result ≡ last_start (starts T.from rows.now count) }
 {
     let n = recorded(count, rows.len());
     if n == 0 {
@@ -47,7 +47,7 @@ fn last_of<T: Row + Copy>(rows: &[T], count: usize) -> Option<usize>
 
 // Whether `start` is above the start of the last row on record.
 fn may_follow<T: Row + Copy>(rows: &[T], count: usize, start: usize) -> bool
-    ensures { result ≡ follows (starts from rows.now count) start }
+    ensures { result ≡ follows (starts T.from rows.now count) start }
 {
     match last_of(rows, count) {
         None => true,
@@ -58,7 +58,7 @@ fn may_follow<T: Row + Copy>(rows: &[T], count: usize, start: usize) -> bool
 // Where the row at a place on record starts.
 fn start_of<T: Row + Copy>(rows: &[T], count: usize, i: usize) -> usize
     requires { i < min count (length rows.now) }
-    ensures { result ≡ slice_index (starts from rows.now count) i }
+    ensures { result ≡ slice_index (starts T.from rows.now count) i }
 {
     rows[i].start()
 }
@@ -66,7 +66,7 @@ fn start_of<T: Row + Copy>(rows: &[T], count: usize, i: usize) -> usize
 // The first row on record that starts at or after a place, or how many there are; by halving, in rows of rising starts.
 fn first_from<T: Row + Copy>(rows: &[T], count: usize, place: usize) -> usize
     ensures within { result ≤ min count (length rows.now) }
-    ensures parted { Parted (starts from rows.now count) place result result }
+    ensures parted { Parted (starts T.from rows.now count) place result result }
 {
     let mut low = 0;
     let mut high = recorded(count, rows.len());
@@ -82,7 +82,7 @@ fn first_from<T: Row + Copy>(rows: &[T], count: usize, place: usize) -> usize
 }
 
 fn find_start<T: Row + Copy>(rows: &[T], count: usize, start: usize) -> Option<usize>
-    ensures found { Found (starts from rows.now count) start result }
+    ensures found { Found (starts T.from rows.now count) start result }
     ensures fits { IfSome result (λ i. i + 1 < 2 ^ 64) }
 {
     let i = first_from(rows, count, start);
@@ -97,7 +97,7 @@ fn find_start<T: Row + Copy>(rows: &[T], count: usize, start: usize) -> Option<u
 }
 
 fn put<T: Row + Copy>(rows: &mut [T], count: usize, row: T) -> Appended
-    ensures answer { result ≡ outcome from rows.old count row }
+    ensures answer { result ≡ outcome T.from rows.old count row }
     ensures rows { rows.new ≡ rows_with result rows.old count row }
 {
     if !may_follow(rows, count, row.start()) {
@@ -162,21 +162,21 @@ impl<'a, T: Row + Copy> Table<'a, T> {
 
     // Whether a row that starts there is a new one.
     pub fn is_new(&self, start: usize) -> bool
-        ensures { result ≡ follows (starts from (rows_of self.now) (count_of self.now)) start }
+        ensures { result ≡ follows (starts T.from (rows_of self.now) (count_of self.now)) start }
     {
         may_follow(self.rows, self.count, start)
     }
 
     // Where the last row on record starts, if there is one.
     pub fn last_start(&self) -> Option<usize>
-        ensures { result ≡ last_start (starts from (rows_of self.now) (count_of self.now)) }
+        ensures { result ≡ last_start (starts T.from (rows_of self.now) (count_of self.now)) }
     {
         last_of(self.rows, self.count)
     }
 
     // The row on record that starts there, in rows of rising starts.
     pub fn find(&self, start: usize) -> Option<usize>
-        ensures found { Found (starts from (rows_of self.now) (count_of self.now)) start result }
+        ensures found { Found (starts T.from (rows_of self.now) (count_of self.now)) start result }
         ensures fits { IfSome result (λ i. i + 1 < 2 ^ 64) }
     {
         find_start(self.rows, self.count, start)
@@ -184,10 +184,10 @@ impl<'a, T: Row + Copy> Table<'a, T> {
 
     // Adds a row at the end. A row whose start is not above the last row's is dropped.
     pub fn append(&mut self, row: T) -> Appended
-        ensures answer { result ≡ outcome from (rows_of self.old) (count_of self.old) row }
+        ensures answer { result ≡ outcome T.from (rows_of self.old) (count_of self.old) row }
         ensures rows { rows_of self.new ≡ rows_with result (rows_of self.old) (count_of self.old) row }
         ensures count { count_of self.new ≡ count_with result (count_of self.old) }
-        ensures rising { Rising (starts from (rows_of self.old) (count_of self.old)) → Rising (starts from (rows_of self.new) (count_of self.new)) }
+        ensures rising { Rising (starts T.from (rows_of self.old) (count_of self.old)) → Rising (starts T.from (rows_of self.new) (count_of self.new)) }
         ensures lender { self.new.rows.ghost_name ≡ self.old.rows.ghost_name }
     {
         let n = self.count;
