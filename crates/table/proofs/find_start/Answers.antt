@@ -7,13 +7,13 @@ use Rattle.table.proofs.find_start.Goals as goal
 pub returns-then-i-recorded : goal.returns-then-i-recorded
 returns-then-i-recorded g c =
     let long = starts_long g.T.Row.from c.args.rows.now c.args.count in
-    record { found = found_none (starts g.T.Row.from c.args.rows.now c.args.count) c.args.start c.first-from-i.result c.first-from-i.ensures.parted (λ lt e. omega (arith, long)); fits = tt }
+    record { found = found_none (starts g.T.Row.from c.args.rows.now c.args.count) c.args.start c.first_from-i.result c.first_from-i.ensures.parted (λ lt e. omega (arith, long)); fits = tt }
 
-pub returns-then-start-of-start : goal.returns-then-start-of-start
-returns-then-start-of-start g c =
+pub returns-then-start_of-start : goal.returns-then-start_of-start
+returns-then-start_of-start g c =
     let long = starts_long g.T.Row.from c.args.rows.now c.args.count in
-    record { found = (omega (arith, long), sym c.start-of.ensures ∙ c.if-start-of-start.true); fits = search rules }
+    record { found = (omega (arith, long), sym c.start_of.ensures ∙ c.if-start_of-start.true); fits = search rules }
 
-pub returns-else-start-of-start : goal.returns-else-start-of-start
-returns-else-start-of-start g c =
-    record { found = found_none (starts g.T.Row.from c.args.rows.now c.args.count) c.args.start c.first-from-i.result c.first-from-i.ensures.parted (λ lt e. c.if-start-of-start.false (c.start-of.ensures ∙ e)); fits = tt }
+pub returns-else-start_of-start : goal.returns-else-start_of-start
+returns-else-start_of-start g c =
+    record { found = found_none (starts g.T.Row.from c.args.rows.now c.args.count) c.args.start c.first_from-i.result c.first_from-i.ensures.parted (λ lt e. c.if-start_of-start.false (c.start_of.ensures ∙ e)); fits = tt }
