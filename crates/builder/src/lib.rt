@@ -1,3 +1,4 @@
+#![tactic(auto)]
 // Which comment goes with which token: the builder that is fed comments, line breaks and tokens.
 pub mod content;
 pub mod event;

@@ -1,3 +1,4 @@
+#![tactic(auto)]
 // Prints the listing of a settings text that it reads from standard input.
 ghost use Rattle.std.specs.Prelude.{◌≤◌, length, IfOk};
 

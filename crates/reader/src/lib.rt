@@ -1,3 +1,4 @@
+#![tactic(auto)]
 // Reads a text token by token into the tables of a caller.
 use builder::state::TriviaBuilder;
 use source::source::Source;

@@ -1,3 +1,4 @@
+#![tactic(auto)]
 // A settings text, JSON with comments, read to its end in tables of fixed sizes and listed.
 ghost use Rattle.std.specs.Prelude.{◌≡◌, ◌<◌, ◌≤◌, length, Err, IsUtf8, OnErr};
 ghost use Rattle.refusals.specs.declared.Refusal.TheVariants.{TooLong, NotUtf8};

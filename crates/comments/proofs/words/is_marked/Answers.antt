@@ -6,6 +6,6 @@ use Rattle.comments.proofs.words.is_marked.Goals as goal
 
 pub returns : goal.returns
 returns c =
-    c.starts-with.ensures
+    c.starts_with.ensures
     ∙ ap (begins c.args.word.now) (take_rest c.args.bytes.now 1)
-    ∙ ap (λ (m : Bool). m && begins c.args.word.now (drop 1 c.args.bytes.now)) c.if-not-is-mark.ensures
+    ∙ ap (λ (m : Bool). m && begins c.args.word.now (drop 1 c.args.bytes.now)) c.if-not-is_mark.ensures

@@ -3,4 +3,4 @@ use Rattle.comments.proofs.Searches.{starts_begins}
 use Rattle.comments.proofs.words.starts_with.Goals as goal
 
 pub returns : goal.returns
-returns c = starts_begins c.args.word.now c.args.bytes.now c.starts-with.result c.starts-with.ensures.value
+returns c = starts_begins c.args.word.now c.args.bytes.now c.starts_with.result c.starts_with.ensures.value

@@ -7,6 +7,6 @@ use Rattle.listing.proofs.list.list_refusal.Goals as goal
 
 pub returns : goal.returns
 returns c =
-    let W : ℕ → Type 0 = λ n. Wrote c.args.buffer.now (line_of 82 (n ∷ [])) c.put-line.new.self in
-    let w : Wrote c.args.buffer.now (refusal_line c.args.refusal.now) c.put-line.new.self = subst W c.number.ensures (c.put-line.ensures.wrote c.args.buffer.now [] (wrote_none c.args.buffer.now c.new-out.result c.new-out.ensures.len c.new-out.ensures.bytes)) in
-    record { answer = c.len.ensures ∙ w.long; bytes = ◌∙◌ {b = c.put-line.new.self.bytes.now} (search rules) w.bytes }
+    let W : ℕ → Type 0 = λ n. Wrote c.args.buffer.now (line_of 82 (n ∷ [])) c.put_line.new.self in
+    let w : Wrote c.args.buffer.now (refusal_line c.args.refusal.now) c.put_line.new.self = subst W c.number.ensures (c.put_line.ensures.wrote c.args.buffer.now [] (wrote_none c.args.buffer.now c.new-out.result c.new-out.ensures.len c.new-out.ensures.bytes)) in
+    record { answer = c.len.ensures ∙ w.long; bytes = ◌∙◌ {b = c.put_line.new.self.bytes.now} (search rules) w.bytes }

@@ -13,9 +13,9 @@ pub loop-i-preserved : goal.loop-i-preserved
 loop-i-preserved g c = (
   (λ buffer xs h.
       let front = xs ++ lines_of g.T.Listed.line (take c.loop-i.i (kept_of c.args.table.now)) in
-      let W : g.row.T.Denot → Type 0 = λ r. Wrote buffer (front ++ g.T.Listed.line r) c.put-row.new.out in
-      wrote_row g.T.Listed.line buffer xs (kept_of c.args.table.now) c.loop-i.i c.args.none _ (omega (arith, c.len-i-end.ensures.value)) (subst W c.row.ensures (c.put-row.ensures.wrote buffer front (c.loop-i.invariant.0 buffer xs h)))),
-  c.put-row.ensures.lender ∙ c.loop-i.invariant.1,
+      let W : g.row.T.Denot → Type 0 = λ r. Wrote buffer (front ++ g.T.Listed.line r) c.put_row.new.out in
+      wrote_row g.T.Listed.line buffer xs (kept_of c.args.table.now) c.loop-i.i c.args.none _ (omega (arith, c.len-i-end.ensures.value)) (subst W c.row.ensures (c.put_row.ensures.wrote buffer front (c.loop-i.invariant.0 buffer xs h)))),
+  c.put_row.ensures.lender ∙ c.loop-i.invariant.1,
 )
 
 pub returns : goal.returns

@@ -20,19 +20,19 @@ loop-piece-preserved c =
     let shape : Shape = shape_of c.in-Found.piece.trivia in
     let first : Tables = tables_of c.args.builder.now c.args.comments.now c.args.spaces.now in
     let before : Tables = tables_of c.loop-piece.builder c.loop-piece.comments c.loop-piece.spaces in
-    let after : Tables = tables_of c.feed-piece.new.builder c.feed-piece.new.comments c.feed-piece.new.spaces in
+    let after : Tables = tables_of c.feed_piece.new.builder c.feed_piece.new.comments c.feed_piece.new.spaces in
     let same : text_of c.loop-piece.ahead ≡ text = ap (λ (r : Bor (List ℕ)). r.now) c.loop-piece.invariant.0 in
     let stands : piece_at text here ≡ piece start end shape = ap (λ (l : List ℕ). piece_at l here) (sym same) ∙ sym c.in-Found.ensures.value in
     let lands = c.in-Found.ensures.lands in
-    let goes : place_of c.set-position.new.self ≡ end = moves c.set-position.result _ _ _ _ c.set-position.ensures.place lands.1 in
+    let goes : place_of c.set_position.new.self ≡ end = moves c.set_position.result _ _ _ _ c.set_position.ensures.place lands.1 in
     let long : length (text_of c.loop-piece.ahead) ≡ length text = ap length same in
     let whole : c.whole.result.now ≡ text = ap (λ (r : Bor (List ℕ)). r.now) c.whole.ensures in
     let By : List ℕ → Type 0 = λ l. FedBy l start end shape before after in
     let At : ℕ → Type 0 = λ k. Feeding text (place_of c.args.source.now) first k after in (
-      c.set-position.ensures.text ∙ c.loop-piece.invariant.0,
+      c.set_position.ensures.text ∙ c.loop-piece.invariant.0,
       search rules,
       search rules,
-      subst At (sym goes) (feeding_more text _ first here start end shape before after stands lands.0 (omega (arith, long, lands.1.0)) (subst By whole c.feed-piece.ensures.fed) c.loop-piece.invariant.3),
+      subst At (sym goes) (feeding_more text _ first here start end shape before after stands lands.0 (omega (arith, long, lands.1.0)) (subst By whole c.feed_piece.ensures.fed) c.loop-piece.invariant.3),
     )
 
 pub returns : goal.returns
@@ -40,8 +40,8 @@ returns c =
     let text : List ℕ = text_of c.args.source.now in
     let here : ℕ = place_of c.loop-piece.ahead in
     let same : text_of c.loop-piece.ahead ≡ text = ap (λ (r : Bor (List ℕ)). r.now) c.loop-piece.invariant.0 in
-    let stands : piece_at text here ≡ standing_of c.piece-at.result = ap (λ (l : List ℕ). piece_at l here) (sym same) ∙ sym c.piece-at.ensures.value in
+    let stands : piece_at text here ≡ standing_of c.piece_at.result = ap (λ (l : List ℕ). piece_at l here) (sym same) ∙ sym c.piece_at.ensures.value in
     record {
-      fed = feeding_ends text (place_of c.args.source.now) (tables_of c.args.builder.now c.args.comments.now c.args.spaces.now) here _ (standing_of c.piece-at.result) stands (no_piece c.piece-at.result c.in-default.not-Found) c.loop-piece.invariant.3;
+      fed = feeding_ends text (place_of c.args.source.now) (tables_of c.args.builder.now c.args.comments.now c.args.spaces.now) here _ (standing_of c.piece_at.result) stands (no_piece c.piece_at.result c.in-default.not-Found) c.loop-piece.invariant.3;
       lenders = (c.loop-piece.invariant.1, c.loop-piece.invariant.2);
     }

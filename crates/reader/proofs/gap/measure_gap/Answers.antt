@@ -12,7 +12,7 @@ use Rattle.reader.proofs.gap.measure_gap.Goals as goal
 pub loop-gap-init : goal.loop-gap-init
 loop-gap-init c =
     let Goes : ℕ → Type 0 = λ k. Going (new_in comment_start c.args.comments.now) (new_in span_start c.args.spaces.now) (text_of c.args.source.now) (place_of c.args.source.now) (empty_gap k) in
-    let at : c.offset-usize.result ≡ place_of c.args.source.now = c.offset-usize.ensures.value in
+    let at : c.offset_usize.result ≡ place_of c.args.source.now = c.offset_usize.ensures.value in
     (refl, at, subst Goes (sym at) (going_start _ _ _ _))
 
 pub loop-gap-preserved : goal.loop-gap-preserved
@@ -27,10 +27,10 @@ loop-gap-preserved c =
     let at : c.loop-gap.gap.end ≡ place_of c.loop-gap.ahead = c.loop-gap.invariant.1 in
     let stands : piece_at text c.loop-gap.gap.end ≡ piece start end shape = ap (λ (l : List ℕ). piece_at l c.loop-gap.gap.end) (sym same) ∙ ap (piece_at (text_of c.loop-gap.ahead)) at ∙ sym c.in-Found.ensures.value in
     let lands = c.in-Found.ensures.lands in
-    let goes : place_of c.set-position.new.self ≡ end = moves c.set-position.result _ _ _ _ c.set-position.ensures.place lands.1 in
+    let goes : place_of c.set_position.new.self ≡ end = moves c.set_position.result _ _ _ _ c.set_position.ensures.place lands.1 in
     let long : length (text_of c.loop-gap.ahead) ≡ length text = ap length same in
     let Goes : Gap → Type 0 = Going newComment newSpace text (place_of c.args.source.now) in (
-      c.set-position.ensures.text ∙ c.loop-gap.invariant.0,
-      ap (λ (g : Gap). g.end) c.count-piece-gap.ensures ∙ sym goes,
-      subst Goes (sym c.count-piece-gap.ensures) (going_more newComment newSpace text _ c.loop-gap.gap start end shape stands (omega (arith, at, lands.0)) (omega (arith, long, lands.1.0)) c.loop-gap.invariant.2),
+      c.set_position.ensures.text ∙ c.loop-gap.invariant.0,
+      ap (λ (g : Gap). g.end) c.count_piece-gap.ensures ∙ sym goes,
+      subst Goes (sym c.count_piece-gap.ensures) (going_more newComment newSpace text _ c.loop-gap.gap start end shape stands (omega (arith, at, lands.0)) (omega (arith, long, lands.1.0)) c.loop-gap.invariant.2),
     )

@@ -9,16 +9,16 @@ use Rattle.reader.proofs.token_after.hashbang_line.Goals as goal
 
 pub returns : goal.returns
 returns c =
-    let same = c.as-bytes.ensures.value in
+    let same = c.as_bytes.ensures.value in
     let text : List ℕ = c.args.text.now in
-    let end : ℕ = c.read-hashbang-comment-end.result in
-    let to : end ≡ 2 + line_end (drop 2 text) = c.read-hashbang-comment-end.ensures.end ∙ ap (λ (l : List ℕ). 2 + line_end (drop 2 l)) same in
+    let end : ℕ = c.read_hashbang_comment-end.result in
+    let to : end ≡ 2 + line_end (drop 2 text) = c.read_hashbang_comment-end.ensures.end ∙ ap (λ (l : List ℕ). 2 + line_end (drop 2 l)) same in
     let Stops : List ℕ → Type 0 = λ l. end < length l → 0 < terminator (drop end l) in
     let Within : List ℕ → Type 0 = λ l. 2 ≤ length l → end ≤ length l in
-    let within : end ≤ length text = subst Within same c.read-hashbang-comment-end.ensures.within.1 c.requires.long in
-    let cut : IsCharBoundary text end = cut_before_terminator text end within (subst Stops same c.read-hashbang-comment-end.ensures.stops) in
+    let within : end ≤ length text = subst Within same c.read_hashbang_comment-end.ensures.within.1 c.requires.long in
+    let cut : IsCharBoundary text end = cut_before_terminator text end within (subst Stops same c.read_hashbang_comment-end.ensures.stops) in
     let Cut : ℕ → Type 0 = λ k. IsCharBoundary text k in
-    let is = c.make-found.ensures in
+    let is = c.make_found.ensures in
     record {
       value = is ∙ ap (λ (k : ℕ). found HashbangComment c.args.gap.now.end k c.args.gap.now.newline false) to;
       lands = subst Cut (sym (ap (λ (f : Found). f.token.end) is)) cut;

@@ -6,8 +6,8 @@ use Rattle.reader.specs.declared.token_row.Found.{Found}
 use Rattle.reader.specs.Reading.{told_at}
 use Rattle.reader.proofs.token_after.told_after.Goals as goal
 
-pub make-found-requires : goal.make-found-requires
-make-found-requires g c =
+pub make_found-requires : goal.make_found-requires
+make_found-requires g c =
     let utf8 : IsUtf8 c.args.text.now = search rules in
     let At : Option Told → Type 0 = FairAt c.args.text.now c.args.gap.now.end in
     let fair : Fair c.args.text.now c.args.gap.now.end c.in-Some.t = subst At (sym c.in-Some.ensures) (g.met.R.TokenReader.fair c.args.r.now c.args.text.now utf8 c.args.gap.now.end) in
@@ -18,7 +18,7 @@ returns-in-Some g c =
     let utf8 : IsUtf8 c.args.text.now = search rules in
     let At : Option Told → Type 0 = FairAt c.args.text.now c.args.gap.now.end in
     let fair : Fair c.args.text.now c.args.gap.now.end c.in-Some.t = subst At (sym c.in-Some.ensures) (g.met.R.TokenReader.fair c.args.r.now c.args.text.now utf8 c.args.gap.now.end) in
-    let is = c.make-found.ensures in
+    let is = c.make_found.ensures in
     let Cut : ℕ → Type 0 = λ k. IsCharBoundary c.args.text.now k in
     record {
       value = ap (λ (f : Found). Some f) is ∙ ap (told_at c.args.gap.now) c.in-Some.ensures;

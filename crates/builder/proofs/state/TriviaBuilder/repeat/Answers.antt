@@ -3,8 +3,8 @@ use Rattle.table.specs.View.{kept_of}
 use Rattle.builder.proofs.Spans.{again_some, again_none}
 use Rattle.builder.proofs.state.TriviaBuilder.repeat.Goals as goal
 
-pub set-annotation-flags-requires : goal.set-annotation-flags-requires
-set-annotation-flags-requires c = omega (arith, c.in-Some.ensures.fits)
+pub set_annotation_flags-requires : goal.set_annotation_flags-requires
+set_annotation_flags-requires c = omega (arith, c.in-Some.ensures.fits)
 
 pub returns-in-Some : goal.returns-in-Some
-returns-in-Some c = again_some (kept_of c.args.comments.now) c.args.row c.in-Some.index c.args.self.now _ c.in-Some.ensures.span c.set-annotation-flags.ensures
+returns-in-Some c = again_some (kept_of c.args.comments.now) c.args.row c.in-Some.index c.args.self.now _ c.in-Some.ensures.span c.set_annotation_flags.ensures
