@@ -1,6 +1,6 @@
 -- A word at the front of the bytes, and the steps of the searches over them.
-use Rattle.std.proofs.Common.{◌≡◌, ℕ, ◌+◌, ◌<◌, ◌≤◌, Bool, true, false, cond, ◌&&◌, ◌||◌, eqb, List, [], ◌∷◌, ◌++◌, length, get_or, take, drop, codes, Decides, sym, refl, ap, ◌∙◌}
-use Rattle.std.specs.Cmp.Lexicographic.{Matches}
+use Rattle.std.proofs.Common.{◌≡◌, ℕ, ◌+◌, ◌<◌, ◌≤◌, Bool, true, false, cond, ◌||◌, eqb, List, [], ◌∷◌, ◌++◌, length, get_or, drop, codes, sym, refl, ap, ◌∙◌}
+use Rattle.std.specs.List.{starts_with}
 use Rattle.std.proofs.lemmas.Slice.Eq.{starts_is}
 use Rattle.std.proofs.lemmas.List.{drop_more, drop_all, at_drop_more, at_drop_all}
 use Rattle.std.proofs.lemmas.Bool.{true≢false, false≢true, eqb-true, eq-eqb, and_parts, and_from, or_right}
@@ -26,7 +26,7 @@ same_tests false true h k = k refl
 same_tests false false h k = refl
 
 -- `starts_with` of slices is that test
-pub starts_begins : (word bytes : List ℕ) (r : Bool) → Matches (λ (a b : ℕ) (t : Bool). Decides t (a ≡ b)) word (take (length word) bytes) r → r ≡ begins word bytes
+pub starts_begins : (word bytes : List ℕ) (r : Bool) → r ≡ starts_with eqb bytes word → r ≡ begins word bytes
 starts_begins word bytes r h =
     let is = starts_is Decides-eqb bytes word r h in
     same_tests r (begins word bytes)
