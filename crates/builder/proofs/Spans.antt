@@ -1,12 +1,12 @@
 -- The row on record that has a span.
-use Rattle.std.proofs.Common.{◌≡◌, ℕ, ◌<◌, ◌≤◌, List, map, length, get_or, Some, None, sym, refl, ap, ◌∙◌, subst, inl, inr, ⊎_elim, arith}
+use Rattle.std.proofs.Common.{◌≡◌, ℕ, ◌<◌, List, map, length, get_or, Some, None, sym, refl, ap, ◌∙◌, inl, inr, ⊎_elim, arith}
 use Rattle.std.proofs.lemmas.List.{length-map, get_or-map}
 use Rattle.std.proofs.lemmas.Bool.{cases_order}
 use Rattle.table.specs.Order.{Rising, Found}
 use Rattle.comments.specs.declared.comment.Comment.{Comment}
 use Rattle.builder.specs.declared.state.TriviaBuilder.{TriviaBuilder}
 use Rattle.builder.specs.Rows.{no_comment}
-use Rattle.builder.specs.Building.{Ordered, HasSpan, SpanAt, Again, ranged}
+use Rattle.builder.specs.Building.{Ordered, SpanAt, Again, ranged}
 
 -- rising starts are all different
 alike : (ss : List ℕ) (i j : ℕ) → Rising ss → i < length ss → j < length ss → get_or ss i 0 ≡ get_or ss j 0 → i ≡ j

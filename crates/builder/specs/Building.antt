@@ -1,12 +1,12 @@
 -- What each event makes of the builder and its rows.
-use Rattle.std.specs.Prelude.{◌≡◌, ℕ, ◌+◌, ◌<◌, Bool, true, false, cond, not, ◌&&◌, ◌||◌, ◌⊎◌, List, map, length, take, Some, None, Ok, Err, Option, Result, ◌==◌, nat_lt, slice_index_or, slice_set}
+use Rattle.std.specs.Prelude.{◌≡◌, ℕ, ◌+◌, ◌<◌, Bool, true, false, cond, not, ◌&&◌, ◌⊎◌, List, map, length, take, Some, None, Ok, Err, Option, Result, ◌==◌, nat_lt, slice_index_or, slice_set}
 use Rattle.refusals.specs.declared.Refusal.{Refusal}
 use Rattle.refusals.specs.declared.Refusal.TheVariants.{CommentsFull, SpacesFull, BadComment}
 use Rattle.table.specs.declared.Appended.{Appended}
 use Rattle.table.specs.declared.Appended.TheVariants.{Added, Dropped, Full}
 use Rattle.table.specs.Order.{Rising, outcome}
 use Rattle.kinds.specs.declared.kind.Kind.{Kind}
-use Rattle.kinds.specs.declared.kind.Kind.TheVariants.{Eof, Undetermined}
+use Rattle.kinds.specs.declared.kind.Kind.TheVariants.{Undetermined}
 use Rattle.kinds.specs.declared.token.Token.{Token}
 use Rattle.kinds.specs.Kinds.{number_of, can_end_expression, continues_previous_expression, keeps_line_comment_leading}
 use Rattle.comments.specs.declared.comment.Comment.{Comment}

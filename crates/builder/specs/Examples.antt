@@ -2,7 +2,6 @@
 use Rattle.std.specs.Prelude.{◌≡◌, ℕ, ◌+◌, false, List, [], ◌∷◌, map, take, replicate, slice_set}
 use Rattle.kinds.specs.declared.kind.Kind.{Kind}
 use Rattle.kinds.specs.declared.kind.Kind.TheVariants.{Eof, Ident, Eq, Plus}
-use Rattle.kinds.specs.declared.token.Token.{Token}
 use Rattle.comments.specs.declared.comment.Comment.{Comment}
 use Rattle.comments.specs.declared.comment.CommentKind.{CommentKind}
 use Rattle.comments.specs.declared.comment.CommentKind.TheVariants.{Line, SingleLineBlock}

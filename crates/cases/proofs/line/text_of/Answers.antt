@@ -4,9 +4,9 @@ use Rattle.cases.specs.Fields.{field_bytes}
 use Rattle.cases.proofs.Gathers.{gather_none, gather_last, gather_more, less_left}
 use Rattle.cases.proofs.line.text_of.Goals as goal
 
-pub returns-in-default : goal.returns-in-default
-returns-in-default c =
-    let none = sym c.in-ok-bytes.ensures ∙ ap (option_map vec_items) c.in-default.is in
+pub returns-in_default : goal.returns-in_default
+returns-in_default c =
+    let none = sym c.in-ok-bytes.ensures ∙ ap (option_map vec_items) c.in_default.is in
     sym (gather_none (vec_items c.loop-text.text) c.loop-text.rest.now c.args.fields.now c.split-word.result.0.now c.split-word.result.1.now c.loop-text.invariant.1 c.split-word.ensures.word c.split-word.ensures.rest none)
 
 pub returns-then-field-rest : goal.returns-then-field-rest

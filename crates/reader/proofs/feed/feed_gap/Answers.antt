@@ -42,6 +42,6 @@ returns c =
     let same : text_of c.loop-piece.ahead ≡ text = ap (λ (r : Bor (List ℕ)). r.now) c.loop-piece.invariant.0 in
     let stands : piece_at text here ≡ standing_of c.piece_at.result = ap (λ (l : List ℕ). piece_at l here) (sym same) ∙ sym c.piece_at.ensures.value in
     record {
-      fed = feeding_ends text (place_of c.args.source.now) (tables_of c.args.builder.now c.args.comments.now c.args.spaces.now) here _ (standing_of c.piece_at.result) stands (no_piece c.piece_at.result c.in-default.not-Found) c.loop-piece.invariant.3;
+      fed = feeding_ends text (place_of c.args.source.now) (tables_of c.args.builder.now c.args.comments.now c.args.spaces.now) here _ (standing_of c.piece_at.result) stands (no_piece c.piece_at.result c.in_default.not-Found) c.loop-piece.invariant.3;
       lenders = (c.loop-piece.invariant.1, c.loop-piece.invariant.2);
     }

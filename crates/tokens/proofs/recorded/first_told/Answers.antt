@@ -17,4 +17,4 @@ loop-index-preserved c =
     let text = c.args.text.now in
     let place = c.args.place in
     let here = first_more list text place c.loop-index.index c.record-at.result c.told-by.result c.loop-index.invariant c.record-at.ensures c.told-by.ensures in
-    ap (first_of list text place) (add-one c.loop-index.index) ∙ (here ∙ c.in-default.is)
+    ap (first_of list text place) (add-one c.loop-index.index) ∙ (here ∙ c.in_default.is)

@@ -1,6 +1,6 @@
-use Rattle.std.proofs.Common.{arith, rules}
+use Rattle.std.proofs.Common.{arith}
 use Rattle.table.specs.View.{kept_of}
-use Rattle.builder.proofs.Spans.{again_some, again_none}
+use Rattle.builder.proofs.Spans.{again_some}
 use Rattle.builder.proofs.state.TriviaBuilder.repeat.Goals as goal
 
 pub set_annotation_flags-requires : goal.set_annotation_flags-requires
