@@ -1,15 +1,14 @@
 -- The end of a block is that of its first `*/`, and no other place is; a line terminator stands in it exactly if the flag says so.
-use Rattle.std.proofs.Common.{◌≡◌, ℕ, zero, suc, ◌+◌, ◌-◌, ◌<◌, ◌≤◌, Bool, true, false, cond, ◌&&◌, ◌||◌, eqb, ltb, ◌⊎◌, List, [], ◌∷◌, ◌++◌, length, get_or, drop, codes, Decides, sym, refl, ap, ◌∙◌, subst, inl, inr, ⊎_elim, add_assoc, add-one, arith, lit<, get_or-drop}
+use Rattle.std.proofs.Common.{◌≡◌, ℕ, zero, suc, ◌+◌, ◌-◌, ◌<◌, ◌≤◌, Bool, true, false, ◌||◌, ltb, ◌⊎◌, List, [], ◌∷◌, length, get_or, drop, codes, Decides, sym, refl, ap, ◌∙◌, subst, inl, inr, ⊎_elim, arith, lit<, get_or-drop}
 use Rattle.std.proofs.lemmas.List.{drop-drop, drop_more, length-drop}
 use Rattle.std.proofs.lemmas.Bool.{and_from, and_parts, both_ways, cases_eq, cases_lt, cases_order, cond_both, eq-eqb, eqb-true, false≢true, lt-ltb, ltb-true, or_cases, or_left, or_right}
 use Rattle.std.proofs.lemmas.Bool.Decides.{Decides-like, same_from_decides}
 use Rattle.scanner.specs.declared.comment.Block.{Block}
 use Rattle.scanner.specs.declared.comment.Block.TheVariants.{Ended, Unterminated}
-use Rattle.scanner.specs.Ecma.{BytesAt, LineTerminatorAt, LineTerminatorIn, BlockEnds, NeverCloses, BlockIs}
+use Rattle.scanner.specs.Ecma.{BytesAt, LineTerminatorAt, LineTerminatorIn, BlockEnds, BlockIs}
 use Rattle.scanner.specs.Ends.{terminator, closes, block_from}
 use Rattle.scanner.proofs.Lines.{get_or-within}
 use Rattle.scanner.proofs.Terminators.{head_byte, stands_at, some_terminator, no_line_terminator}
-use Rattle.scanner.proofs.LineLaws.{terminator_within}
 
 -- two bytes that stand at a place
 pub pair_at : (text : List ℕ) (at a b : ℕ) → 0 < a → 0 < b → get_or text at 0 ≡ a → get_or text (at + 1) 0 ≡ b → BytesAt (a ∷ b ∷ []) text at

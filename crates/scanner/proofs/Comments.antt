@@ -1,12 +1,11 @@
 -- A comment's piece, from what the scanners say of its end.
-use Rattle.std.proofs.Common.{◌≡◌, ℕ, ◌+◌, ◌-◌, ◌<◌, ◌≤◌, Bool, false, List, length, get_or, drop, IsUtf8, sym, refl, ap, ◌∙◌, subst, arith}
+use Rattle.std.proofs.Common.{◌≡◌, ℕ, ◌+◌, ◌-◌, ◌<◌, ◌≤◌, Bool, false, List, length, get_or, drop, IsUtf8, sym, ap, ◌∙◌, subst, arith}
 use Rattle.std.specs.Str.{IsCharBoundary}
 use Rattle.std.proofs.lemmas.Str.{IsCharBoundary-after_ascii}
-use Rattle.scanner.specs.declared.comment.Block.{Block}
-use Rattle.scanner.specs.declared.comment.Block.TheVariants.{Ended, Unterminated}
+use Rattle.scanner.specs.declared.comment.Block.TheVariants.{Ended}
 use Rattle.scanner.specs.Ends.{term, terminator, line_end, block_from, BlockWithin}
-use Rattle.scanner.specs.Ecma.{Shape, line, block, Standing, piece, unterminated, cut}
-use Rattle.scanner.specs.Pieces.{line_to, line_from, block_piece, Lands}
+use Rattle.scanner.specs.Ecma.{Shape, line, block, piece, cut}
+use Rattle.scanner.specs.Pieces.{line_to, line_from, block_piece}
 use Rattle.scanner.proofs.Lines.{term-drop}
 use Rattle.scanner.proofs.Cuts.{cut_before_terminator, cut_after_terminator}
 

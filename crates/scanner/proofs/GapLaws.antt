@@ -1,20 +1,19 @@
 -- The gap that is computed is the chain of pieces as long as possible, and the only one; a line terminator stands in it exactly if the measure says so.
-use Rattle.std.proofs.Common.{◌≡◌, ℕ, zero, suc, ◌+◌, ◌-◌, ◌<◌, ◌≤◌, Bool, true, false, cond, ◌||◌, ltb, ◌⊎◌, List, [], ◌∷◌, ◌++◌, length, get_or, drop, is_some, Some, None, IsUtf8, Decides, Option, unwrap_or, sym, refl, ap, ◌∙◌, subst, inl, inr, ⊎_elim, arith}
+use Rattle.std.proofs.Common.{◌≡◌, ℕ, zero, suc, ◌+◌, ◌<◌, ◌≤◌, Bool, true, List, [], ◌∷◌, length, get_or, Some, None, IsUtf8, Option, sym, refl, ap, ◌∙◌, subst, inl, inr, ⊎_elim, arith}
 use lib.Utf8.{encode}
 use Rattle.std.specs.Char.{len_utf8}
 use Rattle.std.specs.Str.{IsCharBoundary}
-use Rattle.std.proofs.lemmas.List.{length-drop, length-take}
 use Rattle.std.proofs.lemmas.Bool.{cases_lt}
 use Rattle.std.proofs.lemmas.Str.{IsCharBoundary-after_ascii, IsCharBoundary-end, IsCharBoundary-past_char, IsUtf8-drop, len_utf8_bounds}
-use Rattle.std.proofs.lemmas.Bool.Decides.{nat_tests, Decides-like, Decides-or}
+use Rattle.std.proofs.lemmas.Bool.Decides.{nat_tests}
 use Rattle.source.specs.Search.{regular_whitespace}
-use Rattle.scanner.specs.Ecma.{BytesAt, OneFrom, LineTerminatorAt, LineTerminatorIn, LineEnds, LineSwallowed, RunEnds, line_break, Shape, space, newline, irregular_space, irregular_newline, line, block, PieceIs, OpenBlock, NoPiece, Standing, piece, unterminated, nothing, Stands, Placed, Chain, Gap, GapStops, GapIs}
-use Rattle.scanner.specs.Pieces.{piece_at, Lands}
-use Rattle.scanner.specs.Gaps.{gap_by, gap_on, gap_from, newline_in, newline_among}
+use Rattle.scanner.specs.Ecma.{BytesAt, LineEnds, LineSwallowed, line_break, Shape, space, newline, irregular_space, irregular_newline, line, block, PieceIs, OpenBlock, NoPiece, Standing, piece, unterminated, nothing, Stands, Placed, Chain, Gap, GapStops, GapIs}
+use Rattle.scanner.specs.Pieces.{piece_at}
+use Rattle.scanner.specs.Gaps.{gap_by, gap_on, gap_from}
 use Rattle.scanner.proofs.Lines.{get_or-within}
 use Rattle.scanner.proofs.Cuts.{cut_before_terminator, cut_after_ascii}
-use Rattle.scanner.proofs.Terminators.{head_byte, some_terminator, no_line_terminator}
-use Rattle.scanner.proofs.LineLaws.{line_within, terminator_within}
+use Rattle.scanner.proofs.Terminators.{some_terminator}
+use Rattle.scanner.proofs.LineLaws.{line_within}
 use Rattle.scanner.proofs.BlockLaws.{pair_bytes}
 use Rattle.scanner.proofs.PieceLaws.{piece_stands, piece_only}
 

@@ -1,8 +1,8 @@
 -- The end of a line is the first place at which a line terminator stands, or the end of the text, and no other place is.
-use Rattle.std.proofs.Common.{◌≡◌, ℕ, zero, suc, ◌+◌, ◌-◌, ◌<◌, ◌≤◌, Bool, true, false, cond, eqb, ◌⊎◌, List, [], ◌∷◌, length, drop, sym, refl, ap, ◌∙◌, subst, inl, inr, ⊎_elim, one-add, arith}
+use Rattle.std.proofs.Common.{◌≡◌, ℕ, zero, suc, ◌+◌, ◌-◌, ◌<◌, ◌≤◌, eqb, List, [], ◌∷◌, length, drop, sym, ap, ◌∙◌, subst, inl, inr, ⊎_elim, one-add, arith}
 use Rattle.std.proofs.lemmas.List.{drop_all, drop-drop, length-drop}
 use Rattle.std.proofs.lemmas.Bool.{cond_both, cases_lt, cases_order, eqb-true, eqb-false}
-use Rattle.scanner.specs.Ecma.{LineTerminatorAt, LineTerminatorIn, LineEnds, LineSwallowed, OneFrom}
+use Rattle.scanner.specs.Ecma.{LineTerminatorAt, LineEnds}
 use Rattle.scanner.specs.Ends.{terminator, line_end}
 use Rattle.scanner.proofs.Terminators.{stands_at, some_terminator}
 

@@ -1,5 +1,5 @@
 -- One piece after another measures the whole gap.
-use Rattle.std.proofs.Common.{◌≡◌, ℕ, zero, suc, ◌+◌, ◌<◌, ◌≤◌, Bool, true, false, cond, ◌&&◌, ◌||◌, List, length, MatchBool, Option, unwrap_or, sym, refl, ap, ◌∙◌, subst, add_assoc, zero-add, arith}
+use Rattle.std.proofs.Common.{◌≡◌, ℕ, zero, suc, ◌+◌, ◌<◌, ◌≤◌, Bool, true, false, cond, ◌&&◌, ◌||◌, List, length, MatchBool, Option, unwrap_or, sym, refl, ap, ◌∙◌, add_assoc, zero-add, arith}
 use Rattle.scanner.specs.declared.gap.GapMeasure.{GapMeasure}
 use Rattle.scanner.specs.Ecma.{Shape, Standing, piece, Gap}
 use Rattle.scanner.specs.Pieces.{piece_at}

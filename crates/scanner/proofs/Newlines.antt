@@ -1,5 +1,5 @@
 -- A line terminator stands in a gap exactly if one stands in a piece of it or in the unterminated block at its end.
-use Rattle.std.proofs.Common.{◌≡◌, ℕ, zero, suc, ◌+◌, ◌-◌, ◌*◌, ◌/◌, ◌%◌, ◌<◌, ◌≤◌, min, Bool, true, false, cond, ◌||◌, ltb, ◌⊎◌, List, [], ◌∷◌, ◌++◌, length, get_or, drop, is_some, Some, None, IsUtf8, Decides, Option, unwrap_or, sym, refl, ap, ◌∙◌, subst, inl, inr, ⊎_elim, arith, get_or-drop}
+use Rattle.std.proofs.Common.{◌≡◌, ℕ, zero, suc, ◌+◌, ◌-◌, ◌/◌, ◌%◌, ◌<◌, ◌≤◌, Bool, true, false, cond, ◌||◌, ltb, ◌⊎◌, List, [], ◌∷◌, length, get_or, drop, is_some, Some, None, IsUtf8, Decides, Option, unwrap_or, sym, refl, ap, ◌∙◌, subst, inl, inr, ⊎_elim, arith, get_or-drop}
 use lib.Utf8.{encode}
 use Rattle.std.specs.Char.{len_utf8}
 use Rattle.std.specs.Str.{IsCharBoundary}
@@ -9,10 +9,10 @@ use Rattle.std.proofs.lemmas.Bool.{both_ways, cases_lt, cases_order, false≢tru
 use Rattle.std.proofs.lemmas.Str.{encode_same, length-encode, len_utf8_bounds}
 use Rattle.std.proofs.lemmas.Bool.Decides.{nat_tests, Decides-like, Decides-or}
 use Rattle.source.specs.Unicode.{irregular_whitespace, irregular_line_terminator, line_terminator}
-use Rattle.scanner.specs.Ecma.{BytesAt, LineTerminatorAt, LineTerminatorIn, LineEnds, LineSwallowed, plain_space, line_break, Shape, space, newline, irregular_space, irregular_newline, line, block, PieceIs, OpenBlock, Placed, Chain, Gap, GapStops, GapIs, CutOut}
+use Rattle.scanner.specs.Ecma.{BytesAt, LineTerminatorAt, LineTerminatorIn, LineEnds, LineSwallowed, plain_space, line_break, Shape, space, newline, irregular_space, irregular_newline, line, block, PieceIs, Placed, Chain, Gap, GapStops, GapIs, CutOut}
 use Rattle.scanner.specs.Gaps.{gap_from, newline_in, newline_among, measured}
 use Rattle.scanner.specs.declared.gap.GapMeasure.{GapMeasure}
-use Rattle.scanner.proofs.Terminators.{some_terminator, no_line_terminator}
+use Rattle.scanner.proofs.Terminators.{no_line_terminator}
 use Rattle.scanner.proofs.LineLaws.{line_within}
 use Rattle.scanner.proofs.BlockLaws.{pair_bytes}
 use Rattle.scanner.proofs.GapLaws.{piece_lands, gap_is, gap_only}

@@ -1,20 +1,20 @@
 -- What the scanner computes at a place is what stands there, and nothing else stands there.
-use Rattle.std.proofs.Common.{◌≡◌, ℕ, zero, suc, ◌+◌, ◌-◌, ◌<◌, ◌≤◌, Bool, true, false, cond, ◌||◌, eqb, leb, ◌⊎◌, List, [], ◌∷◌, ◌++◌, length, get_or, drop, codes, IsUtf8, sym, refl, ap, ◌∙◌, subst, inl, inr, ⊎_elim, arith, lit<}
+use Rattle.std.proofs.Common.{◌≡◌, ℕ, ◌+◌, ◌<◌, ◌≤◌, Bool, true, false, ◌||◌, eqb, leb, List, [], ◌∷◌, ◌++◌, length, get_or, drop, codes, IsUtf8, sym, refl, ap, ◌∙◌, subst, inl, inr, ⊎_elim, arith, lit<}
 use lib.Utf8.{encode, encodes}
 use Rattle.std.specs.Char.{len_utf8}
 use Rattle.std.specs.Str.{IsCharBoundary}
 use Rattle.std.specs.List.{prefix_len}
 use Rattle.std.proofs.lemmas.List.{drop_all, length-append, length-drop}
-use Rattle.std.proofs.lemmas.Bool.{both_ways, cases_lt, cond_both, cond-true, cond-false, eq-eqb, eqb-true, eqb-false, le-leb, lt-leb, or_cases, or_left, or_right}
+use Rattle.std.proofs.lemmas.Bool.{both_ways, cases_lt, cond_both, cond-true, cond-false, eqb-true, eqb-false, le-leb, lt-leb, or_cases, or_left, or_right}
 use Rattle.std.proofs.lemmas.Str.{encode_same, length-encode, IsUtf8-drop, len_utf8_ascii, len_utf8_bounds}
 use Rattle.std.proofs.lemmas.Bool.Decides.{nat_tests}
 use Rattle.source.specs.Search.{regular_whitespace}
-use Rattle.source.specs.Unicode.{irregular_whitespace, irregular_line_terminator, line_terminator, first_char}
+use Rattle.source.specs.Unicode.{irregular_whitespace, irregular_line_terminator, first_char}
 use Rattle.source.proofs.Spelt.{first_spelt}
 use Rattle.scanner.specs.declared.comment.Block.{Block}
 use Rattle.scanner.specs.declared.comment.Block.TheVariants.{Ended, Unterminated}
-use Rattle.scanner.specs.Ecma.{BytesAt, OneAt, OneFrom, cut, LineTerminatorAt, LineEnds, LineSwallowed, BlockIs, plain_space, line_break, gap_character, Shape, space, newline, irregular_space, irregular_newline, line, block, PieceIs, NoPiece, Standing, piece, unterminated, nothing, Stands}
-use Rattle.scanner.specs.Ends.{terminator, line_end, block_from}
+use Rattle.scanner.specs.Ecma.{BytesAt, cut, LineEnds, LineSwallowed, BlockIs, plain_space, line_break, gap_character, space, newline, irregular_space, irregular_newline, line, block, NoPiece, Standing, piece, unterminated, nothing, Stands}
+use Rattle.scanner.specs.Ends.{terminator, line_end}
 use Rattle.scanner.specs.Pieces.{line_to, line_from, block_piece, comment_from, white_from, piece_from, piece_at}
 use Rattle.scanner.proofs.Lines.{get_or-within}
 use Rattle.scanner.proofs.Terminators.{head_byte, term_of, stands_from, some_terminator}

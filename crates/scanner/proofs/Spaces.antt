@@ -1,6 +1,5 @@
 -- White space and line breaks, case by case.
-use Rattle.std.proofs.Common.{◌≡◌, ℕ, ◌+◌, ◌-◌, ◌<◌, ◌≤◌, Bool, true, false, cond, ◌||◌, eqb, ◌⊎◌, List, ◌++◌, length, get_or, drop, Some, None, IsUtf8, sym, refl, ap, ◌∙◌, subst, inl, inr, ⊎_elim, add-zero, arith, get_or-drop, eqb-true}
-use lib.Utf8.{encode}
+use Rattle.std.proofs.Common.{◌≡◌, ℕ, ◌+◌, ◌<◌, ◌≤◌, Bool, true, false, cond, ◌||◌, eqb, List, length, get_or, drop, Some, None, IsUtf8, sym, refl, ap, ◌∙◌, subst, ⊎_elim, add-zero, arith, get_or-drop, eqb-true}
 use Rattle.std.specs.Char.{len_utf8}
 use Rattle.std.specs.Str.{IsCharBoundary}
 use Rattle.std.proofs.lemmas.Bool.{or_cases, cases_lt}

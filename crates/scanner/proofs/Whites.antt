@@ -1,9 +1,9 @@
 -- White space that is no irregular space is ASCII.
-use Rattle.std.proofs.Common.{◌≡◌, ℕ, ◌<◌, Bool, true, false, not, List, map, get_or, sym, ap, ◌∙◌, zero-add, arith}
+use Rattle.std.proofs.Common.{◌≡◌, ℕ, ◌<◌, Bool, false, List, map, get_or, sym, ap, ◌∙◌, zero-add, arith}
 use Rattle.std.specs.List.{range_with_len}
 use Rattle.std.proofs.lemmas.List.FromFn.{get_or-map-range_with_len}
 use Rattle.std.proofs.lemmas.Bool.Decides.{nat_tests}
-use Rattle.source.specs.Search.{hits, ends_regular_whitespace, regular_whitespace}
+use Rattle.source.specs.Search.{hits, ends_regular_whitespace}
 
 small : (b : ℕ) → ends_regular_whitespace b ≡ false → b < 128
 small b h = grind (arith, nat_tests)

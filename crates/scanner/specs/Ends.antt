@@ -1,5 +1,5 @@
 -- Where comments end, byte by byte: the line terminator at the front of a text, the end of a line and of a block.
-use Rattle.std.specs.Prelude.{◌≡◌, ℕ, ◌+◌, ◌-◌, ◌≤◌, Bool, true, false, cond, ◌&&◌, ◌||◌, List, [], ◌∷◌, length, ◌==◌, nat_lt, slice_index}
+use Rattle.std.specs.Prelude.{◌≡◌, ℕ, ◌+◌, ◌-◌, ◌≤◌, Bool, cond, ◌&&◌, ◌||◌, List, [], ◌∷◌, length, ◌==◌, nat_lt, slice_index}
 use Rattle.scanner.specs.declared.comment.Block.{Block}
 use Rattle.scanner.specs.declared.comment.Block.TheVariants.{Ended, Unterminated}
 

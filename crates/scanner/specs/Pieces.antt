@@ -1,5 +1,5 @@
 -- The piece that stands at a place of a text, by the first rule that fits. The place is to be a boundary: elsewhere no character stands.
-use Rattle.std.specs.Prelude.{ℕ, ◌+◌, ◌-◌, ◌<◌, Bool, false, cond, ◌||◌, List, length, drop, ◌==◌, nat_le, slice_index}
+use Rattle.std.specs.Prelude.{ℕ, ◌+◌, ◌<◌, false, cond, ◌||◌, List, length, drop, ◌==◌, nat_le, slice_index}
 use Rattle.std.specs.Char.{len_utf8}
 use Rattle.std.specs.Str.{IsCharBoundary}
 use Rattle.std.specs.List.{prefix_len}
@@ -7,7 +7,7 @@ use Rattle.source.specs.Search.{regular_whitespace}
 use Rattle.source.specs.Unicode.{irregular_whitespace, irregular_line_terminator, first_char}
 use Rattle.scanner.specs.declared.comment.Block.{Block}
 use Rattle.scanner.specs.declared.comment.Block.TheVariants.{Ended, Unterminated}
-use Rattle.scanner.specs.Ecma.{Shape, space, newline, irregular_space, irregular_newline, line, block, Standing, piece, unterminated, nothing, cut}
+use Rattle.scanner.specs.Ecma.{space, newline, irregular_space, irregular_newline, line, block, Standing, piece, unterminated, nothing, cut}
 use Rattle.scanner.specs.Ends.{terminator, line_end, block_from}
 
 -- a line comment ends before the first line terminator, and the text goes on after it

@@ -1,5 +1,5 @@
 -- A text may be cut just where a place lies between its characters.
-use Rattle.std.proofs.Common.{◌≡◌, ℕ, Bool, true, false, ◌&&◌, List, [], ◌∷◌, ◌++◌, length, take, drop, IsUtf8, Decides, MatchBool, sym, refl, ap, ◌∙◌, subst, arith}
+use Rattle.std.proofs.Common.{◌≡◌, ℕ, Bool, true, false, List, [], ◌∷◌, ◌++◌, length, take, IsUtf8, Decides, MatchBool, sym, refl, ap, ◌∙◌, subst}
 use lib.Utf8.{encodes, scalar, scalars}
 use Rattle.std.specs.Str.{IsCharBoundary}
 use Rattle.std.proofs.lemmas.List.{length-take-le, take-append-drop}

@@ -1,5 +1,5 @@
 -- What is left of the block ends where the block ends.
-use Rattle.std.proofs.Common.{◌≡◌, ◌+◌, ◌-◌, ◌≤◌, false, length, drop}
+use Rattle.std.proofs.Common.{◌≡◌, ◌-◌, ◌≤◌, false, length, drop}
 use Rattle.scanner.specs.Ends.{block_from}
 use Rattle.scanner.proofs.comment.skip_multi_line_comment.Given as goal
 

@@ -4,7 +4,7 @@ use Rattle.scanner.proofs.comment.terminator_at.Goals as goal
 pub returns : goal.returns
 returns c =
     record {
-      value = c.terminator-width.ensures.value;
-      stands = terminator_is c.args.text.now c.args.at c.terminator-width.result c.terminator-width.ensures.value;
-      within = c.terminator-width.ensures.within;
+      value = c.terminator_width.ensures.value;
+      stands = terminator_is c.args.text.now c.args.at c.terminator_width.result c.terminator_width.ensures.value;
+      within = c.terminator_width.ensures.within;
     }

@@ -5,7 +5,7 @@ use Rattle.scanner.proofs.Measures.{Going}
 use Rattle.scanner.proofs.gap.measure_gap.Given as goal
 
 abbrev pub invariant-loop-gap : goal.invariant-loop-gap
-invariant-loop-gap l = (l.ahead.text ≡ l.source.text) × (l.gap.end ≡ place_of l.ahead) × Going l.last-comment l.last-space (text_of l.source) (place_of l.source) l.gap
+invariant-loop-gap l = (l.ahead.text ≡ l.source.text) × (l.gap.end ≡ place_of l.ahead) × Going l.last_comment l.last_space (text_of l.source) (place_of l.source) l.gap
 
 abbrev pub decreases-loop-gap : goal.decreases-loop-gap
 decreases-loop-gap l = length (text_of l.source) - place_of l.ahead

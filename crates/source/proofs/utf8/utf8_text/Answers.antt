@@ -10,4 +10,4 @@ by_octets bytes text X (Ok s) o is h = rw is (octets_from_utf8 bytes h.1, h.0)
 by_octets bytes text X (Err e) o is h = rw is (λ u. h.0 (utf8_from_octets u))
 
 pub returns : goal.returns
-returns c = by_octets c.args.bytes.now (λ s. s.now) _ c.from-utf8.result _ (search rules) c.from-utf8.ensures.cases
+returns c = by_octets c.args.bytes.now (λ s. s.now) _ c.from_utf8.result _ (search rules) c.from_utf8.ensures.cases

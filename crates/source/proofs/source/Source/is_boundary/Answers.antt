@@ -8,5 +8,5 @@ use Rattle.source.proofs.source.Source.is_boundary.Goals as goal
 
 pub returns : goal.returns
 returns c =
-    let cut : Decides c.is-char-boundary.result (IsCharBoundary (text_of c.args.self.now) c.args.place) = decided _ (cases_from_iff c.is-char-boundary.ensures.test) in
+    let cut : Decides c.is_char_boundary.result (IsCharBoundary (text_of c.args.self.now) c.args.place) = decided _ (cases_from_iff c.is_char_boundary.ensures.test) in
     record { value = cut; between = Decides-like _ (between_from (text_of c.args.self.now) c.args.place (search rules)) (boundary_from (text_of c.args.self.now) c.args.place) cut }
