@@ -4,7 +4,6 @@ use Rattle.std.specs.Option.{option_or}
 use Rattle.std.proofs.lemmas.Bool.{cases_lt}
 use Rattle.tokens.specs.Layout.{record_of, record_bytes}
 use Rattle.tokens.specs.Recorded.{RecordTells, FirstTold, told_by, first_of, recorded_telling}
-use Rattle.tokens.specs.Telling.{FairAt}
 use Rattle.tokens.specs.declared.layout.Record.{Record}
 use Rattle.tokens.specs.declared.token_reader.Told.{Told}
 use Rattle.tokens.proofs.Records.{tells_sound, tells_complete, tells_whole}
@@ -41,13 +40,6 @@ module _ (list text : List ℕ) (place : ℕ) where
 
   pub first_told : FirstTold list text place (recorded_telling list text place)
   first_told = among_all (recorded_telling list text place) (among (length list / 11))
-
-  fair_found : (o : Option Told) → FirstTold list text place o → FairAt text place o
-  fair_found None first = tt
-  fair_found (Some t) first = first.sound.1.counts
-
-  pub fair_recorded : FairAt text place (recorded_telling list text place)
-  fair_recorded = fair_found (recorded_telling list text place) first_told
 
   -- a token found among the first records is found among more of them
   pub first_stays : (n m : ℕ) (t : Told) → n ≤ m → first_of list text place n ≡ Some t → first_of list text place m ≡ Some t

@@ -1,20 +1,17 @@
 -- What a record tells at a place, and what its bytes then spell.
-use Rattle.std.proofs.Common.{◌≡◌, ℕ, ◌/◌, ◌<◌, true, ◌&&◌, eqb, List, length, get_or, IfSome, Some, None, Decides, Option, sym, refl, ap, ◌∙◌, subst, arith}
-use Rattle.std.specs.Str.{IsCharBoundary}
+use Rattle.std.proofs.Common.{◌≡◌, ℕ, ◌/◌, ◌<◌, true, ◌&&◌, eqb, List, length, get_or, IfSome, Some, None, Option, sym, refl, ap, ◌∙◌, subst, arith}
 use Rattle.std.proofs.lemmas.List.{length-take, length-drop}
-use Rattle.std.proofs.lemmas.Bool.{cond_both, cond-true, and_parts, and_from, leb-true, ltb-true, eqb-true, le-leb, lt-ltb, eq-eqb}
+use Rattle.std.proofs.lemmas.Bool.{cond_both, cond-true, and_parts, and_from, eqb-true, le-leb, lt-ltb, eq-eqb}
 use Rattle.std.proofs.lemmas.Bool.Decides.{nat_tests}
 use Rattle.kinds.specs.Kinds.{number_of, kind_of}
 use Rattle.kinds.specs.declared.kind.Kind.{Kind}
-use Rattle.kinds.proofs.Numbered.{kind_has, kind_every, number_high}
+use Rattle.kinds.proofs.Numbered.{kind_has, kind_every}
+use Rattle.tokens.specs.FairRecords.{boundary_decides, counts_fair}
 use Rattle.tokens.specs.Layout.{little_endian, Spells, marked, record_of_kind, record_of, record_bytes}
-use Rattle.tokens.specs.Recorded.{RecordTells, boundary, counts_for, told_by}
+use Rattle.tokens.specs.Recorded.{RecordTells, counts_for, told_by}
 use Rattle.tokens.specs.Telling.{Fair}
 use Rattle.tokens.specs.declared.layout.Record.{Record}
 use Rattle.tokens.specs.declared.token_reader.Told.{Told}
-
-boundary_decides : (text : List ℕ) (place : ℕ) → Decides (boundary text place) (IsCharBoundary text place)
-boundary_decides text place = grind (arith, nat_tests)
 
 marked_spells : (bytes : List ℕ) (k : Kind) → marked bytes ≡ true → number_of k ≡ get_or bytes 2 0
     → Spells bytes (record { kind = k; start = little_endian bytes 3; end = little_endian bytes 7 })
@@ -38,21 +35,6 @@ record_every bytes r s =
     let m = spells_marked bytes r s in
     let k = kind_every (get_or bytes 2 0) r.kind (sym s.kind) in
     grind arith
-
-counts_fair : (text : List ℕ) (r : Record) → counts_for text r ≡ true → Fair text r.start (record { kind = r.kind; end = r.end })
-counts_fair text r h =
-    let kinded = and_parts _ _ h in
-    let long = and_parts _ _ kinded.1 in
-    let cut = and_parts _ _ long.1 in
-    let lands = (boundary_decides text r.end).0 cut.1 in
-    record {
-      low = leb-true 4 (number_of r.kind) kinded.0;
-      high = number_high r.kind;
-      onward = ltb-true r.start r.end long.0;
-      inside = lands.0;
-      begins = (boundary_decides text r.start).0 cut.0;
-      lands = lands;
-    }
 
 fair_counts : (text : List ℕ) (r : Record) → Fair text r.start (record { kind = r.kind; end = r.end }) → counts_for text r ≡ true
 fair_counts text r f =

@@ -193,7 +193,7 @@ no_quote : (b : ℕ) → Begins b → quote b ≡ false
 no_quote b (inl h) = grind (arith, tests)
 no_quote b (inr h) = grind (arith, tests)
 
-number_alone : (text : List ℕ) (place : ℕ) → Begins (byte_at text place) → json_telling text place ≡ number_at text place
+pub number_alone : (text : List ℕ) (place : ℕ) → Begins (byte_at text place) → json_telling text place ≡ number_at text place
 number_alone text place h =
     skip (structural_at text place) _ (ap (λ k. told k (place + 1)) (no_structural (byte_at text place) h))
     ∙ skip (literal_at text place) _ (no_literal text place (no_letter (byte_at text place) h))

@@ -4,6 +4,7 @@ pub mod Rules
 pub mod Grammar
 pub mod Layout
 pub mod Recorded
+pub mod FairRecords
 pub mod Fairness
 pub mod Grammatical
 pub mod Longest

@@ -326,8 +326,8 @@ pub number_over : (text : List ℕ) (p end : ℕ) (kind : Kind) → end ≤ leng
 number_over text p end kind inside h = made_over text p end kind inside (made h)
 
 -- where a number stands, one at least as long is told
+pub number_stands : (text : List ℕ) (p end : ℕ) → end ≤ length text → Number (between text p end) → (kind : Kind) × NumberOver text p end kind
+number_stands text p end inside h = let k = number_made (between text p end) h in (k.0, made_over text p end k.0 inside k.1)
+
 pub number_told : (text : List ℕ) (p end : ℕ) → end ≤ length text → Number (between text p end) → (t : Told) × (number_at text p ≡ Some t) × (end ≤ t.end)
-number_told text p end inside h =
-    let k = number_made (between text p end) h in
-    let o = made_over text p end k.0 inside k.1 in
-    (o.what, o.is, o.far)
+number_told text p end inside h = let o = (number_stands text p end inside h).1 in (o.what, o.is, o.far)

@@ -1,5 +1,5 @@
 -- The bytes of a text, and the rules that a grammar over bytes is made of.
-use Rattle.std.specs.Prelude.{◌≡◌, ℕ, ◌-◌, ◌≤◌, Bool, true, ◌⊎◌, List, [], ◌∷◌, ◌++◌, length, slice_index, slice_range}
+use Rattle.std.specs.Prelude.{◌≡◌, ℕ, ◌≤◌, Bool, true, ◌⊎◌, List, [], ◌∷◌, ◌++◌, length, slice_index, slice_range}
 
 -- the byte at a place, or 0 past the end
 abbrev pub byte_at : List ℕ → ℕ → ℕ

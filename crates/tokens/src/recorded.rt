@@ -2,6 +2,7 @@
 ghost use Rattle.std.specs.Prelude.{◌≡◌, ◌/◌, ◌<◌, true, length};
 ghost use Rattle.tokens.specs.Layout.{record_of, record_bytes};
 ghost use Rattle.tokens.specs.Recorded.{boundary, counts_for, told_by, recorded_telling, FirstTold};
+ghost use Rattle.tokens.specs.FairRecords.{fair_recorded};
 
 use crate::layout::{RECORD_LEN, Record};
 use crate::token_reader::{TokenReader, Told};
@@ -75,6 +76,8 @@ impl TokenReader for RecordedList<'_> {
     ghost banged = { true };
 
     ghost telling = { λ x. recorded_telling x.list.now };
+
+    ghost fair = { λ x text u place. fair_recorded x.list.now text place };
 
     fn begins_banged() -> bool
         ensures { result ≡ true }

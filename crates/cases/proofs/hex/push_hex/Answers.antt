@@ -1,6 +1,5 @@
-use Rattle.std.proofs.Common.{◌≡◌, ◌*◌, ◌/◌, true, false, [], ◌∷◌, ◌++◌, length, drop, vec_items, sym, refl, ◌∙◌, arith, rules}
+use Rattle.std.proofs.Common.{◌≡◌, ◌*◌, ◌/◌, true, false, [], length, drop, sym, refl, ◌∙◌, arith}
 use Rattle.std.proofs.lemmas.List.{drop_all, append-nil}
-use Rattle.cases.specs.Hex.{hex_bytes, Added}
 use Rattle.cases.proofs.Pairs.{odd_none, some_pairs, no_pairs, stops, goes_on}
 use Rattle.cases.proofs.hex.push_hex.Goals as goal
 
@@ -24,7 +23,7 @@ pub loop-i-preserved : goal.loop-i-preserved
 loop-i-preserved c =
     λ done new h.
     c.loop-i.invariant done new
-    (goes_on c.args.digits.now c.loop-i.i (omega arith) c.in-Some.b done _ new (sym c.in-Some.ensures) (rw c.in-ok-push.ensures.items at h))
+    (goes_on c.args.digits.now c.loop-i.i (omega arith) c.in-Some.b done _ new (sym c.in-Some.ensures) (rw c.in_ok-push-in-Some.ensures.items at h))
 
 pub returns : goal.returns
 returns c =

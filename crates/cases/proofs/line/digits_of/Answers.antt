@@ -1,4 +1,4 @@
-use Rattle.std.proofs.Common.{◌≡◌, cond, Some, None, sym, ap, ◌∙◌, arith}
+use Rattle.std.proofs.Common.{cond, Some, None, sym, ap, ◌∙◌, arith}
 use Rattle.cases.specs.Fields.{rest_of, times}
 use Rattle.cases.proofs.Words.{Whole, Parted, cut}
 use Rattle.cases.proofs.line.digits_of.Goals as goal

@@ -3,4 +3,4 @@ use Rattle.cases.specs.Fields.{repeated}
 use Rattle.cases.proofs.line.push_times.Given as goal
 
 abbrev pub invariant-loop-i : goal.invariant-loop-i
-invariant-loop-i l = vec_items l.bytes ++ repeated (l.n - l.-i) l.once ≡ vec_items l.initial.bytes ++ repeated l.n l.once
+invariant-loop-i l = vec_items l.bytes ++ repeated (l.n - l._i) l.once ≡ vec_items l.initial.bytes ++ repeated l.n l.once

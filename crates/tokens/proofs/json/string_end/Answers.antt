@@ -2,7 +2,7 @@ use Rattle.std.proofs.Common.{sym, ◌∙◌, arith}
 use Rattle.std.proofs.lemmas.Bool.Decides.{nat_tests}
 use Rattle.tokens.specs.Strings.{string_more, string_all}
 use Rattle.tokens.proofs.json.string_end.Goals as goal
-use Rattle.tokens.proofs.json.string_end.Goals.{then-escaped, else-escaped+else-b-eq34+else-is-control}
+use Rattle.tokens.proofs.json.string_end.Goals.{then-escaped, else-escaped+else-b-eq34+else-is_control}
 
 pub returns-then-b-eq34 : goal.returns-then-b-eq34
 returns-then-b-eq34 c =
@@ -10,8 +10,8 @@ returns-then-b-eq34 c =
     let i = c.loop-place.invariant in
     grind (arith, nat_tests)
 
-pub returns-then-is-control : goal.returns-then-is-control
-returns-then-is-control c =
+pub returns-then-is_control : goal.returns-then-is_control
+returns-then-is_control c =
     let e = string_more c.loop-place.escaped c.args.bytes.now c.loop-place.place (omega arith) in
     let i = c.loop-place.invariant in
     grind (arith, nat_tests)
@@ -20,7 +20,7 @@ pub loop-place-preserved : goal.loop-place-preserved
 loop-place-preserved c =
     let e = string_more c.loop-place.escaped c.args.bytes.now c.loop-place.place (omega arith) in
     let i = c.loop-place.invariant in
-    elim c.if-escaped.branch [ then-escaped w ↦ grind (arith, nat_tests) | else-escaped+else-b-eq34+else-is-control w ↦ grind (arith, nat_tests) ]
+    elim c.if-escaped.branch [ then-escaped w ↦ grind (arith, nat_tests) | else-escaped+else-b-eq34+else-is_control w ↦ grind (arith, nat_tests) ]
 
 pub returns : goal.returns
 returns c = sym (string_all c.loop-place.escaped c.args.bytes.now c.loop-place.place (omega arith)) ∙ c.loop-place.invariant

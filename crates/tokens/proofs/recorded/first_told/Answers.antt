@@ -8,7 +8,7 @@ returns-in-Some c =
     let list = c.args.list.now in
     let text = c.args.text.now in
     let place = c.args.place in
-    let here = first_more list text place c.loop-index.index c.record-at.result c.told-by.result c.loop-index.invariant c.record-at.ensures c.told-by.ensures in
+    let here = first_more list text place c.loop-index.index c.record_at.result c.told_by.result c.loop-index.invariant c.record_at.ensures c.told_by.ensures in
     sym (first_stays list text place (suc c.loop-index.index) (length list / 11) c.in-Some.t (omega arith) (here ∙ c.in-Some.is))
 
 pub loop-index-preserved : goal.loop-index-preserved
@@ -16,5 +16,5 @@ loop-index-preserved c =
     let list = c.args.list.now in
     let text = c.args.text.now in
     let place = c.args.place in
-    let here = first_more list text place c.loop-index.index c.record-at.result c.told-by.result c.loop-index.invariant c.record-at.ensures c.told-by.ensures in
+    let here = first_more list text place c.loop-index.index c.record_at.result c.told_by.result c.loop-index.invariant c.record_at.ensures c.told_by.ensures in
     ap (first_of list text place) (add-one c.loop-index.index) ∙ (here ∙ c.in_default.is)
