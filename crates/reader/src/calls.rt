@@ -117,7 +117,7 @@ impl<'t> Reader<'t> {
         comments: &Table<'_, Comment>,
         spaces: &Table<'_, Span>,
     ) -> Result<Found, Refusal>
-        ensures { result ≡ reading R.TokenReader.banged (telling r.now) self.now tokens.now comments.now spaces.now }
+        ensures { result ≡ reading R.banged (R.telling r.now) self.now tokens.now comments.now spaces.now }
     {
         match self.opening {
             Opening::TooLong => Err(Refusal::TooLong),
@@ -168,8 +168,8 @@ impl<'t> Reader<'t> {
         comments: &mut Table<'_, Comment>,
         spaces: &mut Table<'_, Span>,
     ) -> Result<(), Refusal>
-        ensures answer { result ≡ unless (reading R.TokenReader.banged (telling r.now) self.old tokens.old comments.old spaces.old) }
-        ensures left { ReadTo (reading R.TokenReader.banged (telling r.now) self.old tokens.old comments.old spaces.old) self.old self.new tokens.old tokens.new comments.old comments.new spaces.old spaces.new }
+        ensures answer { result ≡ unless (reading R.banged (R.telling r.now) self.old tokens.old comments.old spaces.old) }
+        ensures left { ReadTo (reading R.banged (R.telling r.now) self.old tokens.old comments.old spaces.old) self.old self.new tokens.old tokens.new comments.old comments.new spaces.old spaces.new }
         ensures lenders { (tokens.new.rows.ghost_name ≡ tokens.old.rows.ghost_name) × ((comments.new.rows.ghost_name ≡ comments.old.rows.ghost_name) × (spaces.new.rows.ghost_name ≡ spaces.old.rows.ghost_name)) }
     {
         match self.look(r, tokens, comments, spaces) {

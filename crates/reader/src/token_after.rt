@@ -43,7 +43,7 @@ fn make_found(
 }
 
 fn at_hashbang<R: TokenReader>(_r: &R, text: &[u8], end: usize) -> bool
-    ensures value { result ≡ (R.TokenReader.banged && (end == 0 && opens_hashbang text.now)) }
+    ensures value { result ≡ (R.banged && (end == 0 && opens_hashbang text.now)) }
     ensures long { result ≡ true → 2 ≤ length text.now }
 {
     R::begins_banged() && (end == 0 && opens_hashbang(text))
@@ -72,7 +72,7 @@ fn hashbang_line(text: &str, gap: &Gap) -> Found
 fn told_after<R: TokenReader>(r: &R, text: &str, gap: &Gap) -> Option<Found>
     requires cut { gap.now.end ≤ length text.now }
     requires short { length text.now ≤ 4294967039 }
-    ensures value { result ≡ told_at gap.now (telling r.now text.now gap.now.end) }
+    ensures value { result ≡ told_at gap.now (R.telling r.now text.now gap.now.end) }
     ensures lands { FoundLands text.now result }
 {
     match r.tell(text, gap.end) {
@@ -85,7 +85,7 @@ fn told_after<R: TokenReader>(r: &R, text: &str, gap: &Gap) -> Option<Found>
 pub(crate) fn token_after<R: TokenReader>(r: &R, text: &str, gap: &Gap) -> Option<Found>
     requires cut { IsCharBoundary text.now gap.now.end }
     requires short { length text.now ≤ 4294967039 }
-    ensures value { result ≡ token_after R.TokenReader.banged (telling r.now) text.now gap.now }
+    ensures value { result ≡ token_after R.banged (R.telling r.now) text.now gap.now }
     ensures lands { FoundLands text.now result }
 {
     if at_eof(gap, text.len()) {

@@ -6,4 +6,4 @@ pub returns-then-n-lt10 : goal.returns-then-n-lt10
 returns-then-n-lt10 t c = record { wrote = λ buffer xs h. wrote-digit buffer xs c.args.n _ (omega arith) (c.put.ensures.wrote buffer xs h); lender = search rules }
 
 pub returns : goal.returns
-returns t c = record { wrote = λ buffer xs h. wrote-digits buffer xs c.args.n _ (omega arith) (omega arith) (c.put-2.ensures.wrote buffer _ (c.put-decimal.ensures.wrote buffer xs h)); lender = search rules }
+returns t c = record { wrote = λ buffer xs h. wrote-digits buffer xs c.args.n _ (omega arith) (omega arith) (c.put-2.ensures.wrote buffer _ (c.put_decimal.ensures.wrote buffer xs h)); lender = search rules }
