@@ -47,8 +47,10 @@ def snake(name):
 
 
 def files(root, *endings):
-    for folder, dirs, names in os.walk(os.path.join(root, "crates")):
-        dirs[:] = sorted(d for d in dirs if d != "out")
+    crates = os.path.join(root, "crates")
+    for folder, dirs, names in os.walk(crates):
+        built = os.path.dirname(folder) == crates
+        dirs[:] = sorted(d for d in dirs if not (built and d == "out"))
         for name in sorted(names):
             if name.endswith(endings):
                 yield os.path.join(folder, name)

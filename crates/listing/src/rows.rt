@@ -58,7 +58,7 @@ impl Listed for Span {
 
 // The lines of all rows on record.
 pub(crate) fn put_rows<T: Row + Copy + Listed>(out: &mut Out<'_>, table: &Table<'_, T>, none: T)
-    ensures wrote { (buffer xs : List ℕ) → Wrote buffer xs out.old → Wrote buffer (xs ++ lines_of line (kept_of table.now)) out.new }
+    ensures wrote { (buffer xs : List ℕ) → Wrote buffer xs out.old → Wrote buffer (xs ++ lines_of T.line (kept_of table.now)) out.new }
     ensures lender { out.new.bytes.ghost_name ≡ out.old.bytes.ghost_name }
 {
     for i in 0..table.len() {
