@@ -1,3 +1,4 @@
+#![tactic(auto)]
 // Plays a list of cases: for each text prints what lock_comments would print.
 use settings::{LISTING, answer};
 use std::alloc::{AllocError, Global};

@@ -1,3 +1,4 @@
+#![tactic(auto)]
 // Replays stored facts: prints what the libraries answer about kinds, the pieces of a gap and the tokens of a text.
 mod answers;
 mod questions;
