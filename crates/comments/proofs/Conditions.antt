@@ -2,7 +2,7 @@
 use Rattle.std.proofs.Common.{◌≡◌, ℕ, ◌≤◌, Bool, true, false, cond, ◌&&◌, ◌||◌, eqb, leb, ◌⊎◌, List, [], ◌∷◌, ◌++◌, length, get_or, drop, codes, Decides, sym, refl, ap, ◌∙◌, subst, ⊎_elim, add-zero, arith}
 use Rattle.std.specs.Int.{IsInRange}
 use Rattle.std.specs.Char.{is_whitespace}
-use Rattle.std.specs.List.{AllByRecursion as All}
+use Rattle.std.specs.List.{AllByRecursion}
 use Rattle.std.proofs.lemmas.List.{get_or-append-add, length-append}
 use Rattle.std.proofs.lemmas.Bool.{true≢false, false≢true, leb-true, le-leb, lt-leb, cases_Bool, cond-true, cond-false, or_cases, or_left, or_right, and_parts, and_from}
 use Rattle.std.proofs.lemmas.Bool.Decides.{nat_tests, Decides-eqb, Decides-and, Decides-or, Decides-at, not_from_Decides}
@@ -51,7 +51,7 @@ decides_licensed content =
     Decides-or (holds (codes "@license") content) (holds (codes "@preserve") content)
     (decides_holds (codes "@license") content) (decides_holds (codes "@preserve") content)
 
-pub decides_stars : (bytes : List ℕ) → Decides (stars bytes) (All (λ b. b ≡ 0x2A) bytes)
+pub decides_stars : (bytes : List ℕ) → Decides (stars bytes) (AllByRecursion (λ b. b ≡ 0x2A) bytes)
 decides_stars bytes = Decides-by_and (λ b. eqb b 42) (λ b. b ≡ 42) stars (λ b. Decides-eqb b 42) refl (λ _ _. refl) bytes
 
 decides_in : (low high c : ℕ) → Decides (leb low c && leb c high) (IsInRange low high c)
@@ -128,7 +128,7 @@ module _ (p : ℕ → Bool) (P : ℕ → Type 0) (each : (x : ℕ) → Decides (
   pub past_only : (xs rest : List ℕ) → Past P xs rest → rest ≡ past p xs
   past_only xs rest h = sym (ap (past p) h.1 ∙ past_front h.0 rest h.2 h.3)
     where
-      past_front : (front rest : List ℕ) → All P front → (First P rest → ⊥) → past p (front ++ rest) ≡ rest
+      past_front : (front rest : List ℕ) → AllByRecursion P front → (First P rest → ⊥) → past p (front ++ rest) ≡ rest
       past_front [] [] a n = refl
       past_front [] (x ∷ rest) a n =
           ⊎_elim (λ (t : p x ≡ true). absurd (n (x, rest, refl, (each x).0 t))) (λ f. cond-false (p x) (past p rest) (x ∷ rest) f) (cases_Bool (p x))

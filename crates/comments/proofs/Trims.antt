@@ -4,7 +4,7 @@ use mathlib.Core.List.{reverse_aux}
 use lib.Utf8.{encode, encodes}
 use Rattle.std.specs.Char.{is_whitespace, is_not_whitespace}
 use Rattle.std.specs.Str.{NonePass, EmptyOrStartsWithPassing, EmptyOrEndsWithPassing, chars}
-use Rattle.std.specs.List.{AllByRecursion as All}
+use Rattle.std.specs.List.{AllByRecursion}
 use Rattle.std.proofs.ByRecursion.{All-append}
 use Rattle.std.proofs.lemmas.List.{append-nil, reverse-append, reverse-reverse, take-append-drop, take_at, nil_from_length}
 use Rattle.std.proofs.lemmas.Str.Pattern.{IsTrimResult}
@@ -14,7 +14,7 @@ use Rattle.comments.specs.Classing.{past, dark_middle, trimmed}
 use Rattle.comments.specs.Rules.{First, Last, Middle, WhiteSpace, TrimmedOf}
 use Rattle.comments.proofs.Conditions.{decides_white, first_none, past_is, past_only}
 
-all_turned : (P : ℕ → Type 0) (xs ys : List ℕ) → All P xs → All P ys → All P (reverse_aux xs ys)
+all_turned : (P : ℕ → Type 0) (xs ys : List ℕ) → AllByRecursion P xs → AllByRecursion P ys → AllByRecursion P (reverse_aux xs ys)
 all_turned P [] ys a b = b
 all_turned P (x ∷ xs) ys a b = all_turned P xs (x ∷ ys) a.1 (a.0, b)
 
@@ -79,7 +79,7 @@ decodes_last t front d u e ud =
     let one : chars (encode d) ≡ d ∷ [] = chars_past_char (encode d) [] d ud (sym (append-nil (encode d))) ∙ ap (λ (xs : List ℕ). d ∷ xs) chars-nil in
     ap chars e ∙ chars-append front (encode d) uf ∙ ap (λ (xs : List ℕ). chars front ++ xs) one
 
-white_all : (xs : List ℕ) → NonePass is_not_whitespace xs → All WhiteSpace xs
+white_all : (xs : List ℕ) → NonePass is_not_whitespace xs → AllByRecursion WhiteSpace xs
 white_all [] f = tt
 white_all (x ∷ xs) f = ((decides_white x).0 (not-false (is_whitespace x) f.0), white_all xs f.1)
 

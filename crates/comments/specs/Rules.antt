@@ -2,7 +2,7 @@
 use Rattle.std.specs.Prelude.{◌≡◌, ℕ, ◌≤◌, Bool, true, ◌⊎◌, List, [], ◌∷◌, ◌++◌, codes}
 use Rattle.std.proofs.Math.Utf8.{encodes}
 use Rattle.std.specs.Int.{IsInRange}
-use Rattle.std.specs.List.{AllByRecursion as All}
+use Rattle.std.specs.List.{AllByRecursion}
 use Rattle.comments.specs.declared.comment.CommentContent.{CommentContent}
 use Rattle.comments.specs.declared.comment.CommentContent.TheVariants.{None, Legal, Jsdoc, JsdocLegal, PureNotApplied, NoSideEffectsNotApplied, PropertyKey, Webpack, Vite, Turbopack, CoverageIgnore, CoverageIgnoreFile}
 
@@ -16,11 +16,11 @@ Last P xs = (before : List ℕ) × (x : ℕ) × (xs ≡ before ++ (x ∷ [])) ×
 
 -- the rest is what is left once the elements at the front that have the property are skipped
 abbrev pub Past : (ℕ → Type 0) → List ℕ → List ℕ → Type 0
-Past P xs rest = (front : List ℕ) × (xs ≡ front ++ rest) × All P front × (First P rest → ⊥)
+Past P xs rest = (front : List ℕ) × (xs ≡ front ++ rest) × AllByRecursion P front × (First P rest → ⊥)
 
 -- the middle is what is left once the elements at both ends that have the property are skipped
 abbrev pub Middle : (ℕ → Type 0) → List ℕ → List ℕ → Type 0
-Middle P xs middle = (front : List ℕ) × (back : List ℕ) × (xs ≡ front ++ (middle ++ back)) × All P front × All P back × (First P middle → ⊥) × (Last P middle → ⊥)
+Middle P xs middle = (front : List ℕ) × (back : List ℕ) × (xs ≡ front ++ (middle ++ back)) × AllByRecursion P front × AllByRecursion P back × (First P middle → ⊥) × (Last P middle → ⊥)
 
 -- the bytes begin with the word
 abbrev pub Begins : List ℕ → List ℕ → Type 0
@@ -77,7 +77,7 @@ rules block content rest =
     (content ≡ [], None)
     ∷ (Begins (codes "!") content, Legal)
     -- 2: a block whose content begins with `*`
-    ∷ (Starred block content × All (λ b. b ≡ 0x2A) content, None)
+    ∷ (Starred block content × AllByRecursion (λ b. b ≡ 0x2A) content, None)
     ∷ (Starred block content × Licensed content, JsdocLegal)
     ∷ (Starred block content, Jsdoc)
     -- 3 and 4: nothing but blanks, and a property key
