@@ -3,7 +3,7 @@ use Rattle.std.proofs.Common.{◌≡◌, ℕ, zero, suc, ◌+◌, ◌-◌, ◌/�
 use lib.Utf8.{encode}
 use Rattle.std.specs.Char.{len_utf8}
 use Rattle.std.specs.Str.{IsCharBoundary}
-use Rattle.std.specs.List.{AllByRecursion as All}
+use Rattle.std.specs.List.{AllByRecursion}
 use Rattle.std.proofs.lemmas.List.{get_or_append_left, length-drop, length-take}
 use Rattle.std.proofs.lemmas.Bool.{both_ways, cases_lt, cases_order, false≢true, lt-ltb, ltb-true}
 use Rattle.std.proofs.lemmas.Str.{encode_same, length-encode, len_utf8_bounds}
@@ -125,7 +125,7 @@ module _ (text : List ℕ) where
         let more = chain_on pieces p.end end lands.1 rest in
         (omega (arith, lands.0, more.0), more.1)
 
-    chain_cuts : (pieces : List Placed) (at end : ℕ) → IsCharBoundary text at → Chain text at pieces end → All (CutOut text) pieces
+    chain_cuts : (pieces : List Placed) (at end : ℕ) → IsCharBoundary text at → Chain text at pieces end → AllByRecursion (CutOut text) pieces
     chain_cuts [] at end here e = tt
     chain_cuts (p ∷ pieces) at end here (e, is, rest) =
         let lands = piece_lands text u at p.end p.shape here is in
@@ -150,7 +150,7 @@ module _ (text : List ℕ) where
         stop_newline at g.end _ g.unended reach.0 reach.1.0 (chain_newline g.pieces at g.end here h.chain) h.stops
 
     -- each piece may be cut out of the text
-    pub gap_cuts : (at : ℕ) (g : Gap) → IsCharBoundary text at → GapIs text at g → All (CutOut text) g.pieces
+    pub gap_cuts : (at : ℕ) (g : Gap) → IsCharBoundary text at → GapIs text at g → AllByRecursion (CutOut text) g.pieces
     gap_cuts at g here h = chain_cuts g.pieces at g.end here h.chain
 
     -- a gap ends where the text may be cut
@@ -161,7 +161,7 @@ module _ (text : List ℕ) where
 pub record Measures (text : List ℕ) (at : ℕ) (m : GapMeasure) : Type 0 where
   pub gap : GapIs text at (gap_from text at)
   pub only : (g : Gap) → GapIs text at g → g ≡ gap_from text at
-  pub cuts : All (CutOut text) (gap_from text at).pieces
+  pub cuts : AllByRecursion (CutOut text) (gap_from text at).pieces
   pub newline : Decides m.newline (LineTerminatorIn text at (cond m.unterminated (length text) m.end))
   pub cut : IsCharBoundary text m.end
 

@@ -1,7 +1,7 @@
 // The gap before a token: where it ends, and what of it is new.
 ghost use Rattle.std.specs.Prelude.{◌≡◌, ℕ, ◌+◌, ◌^◌, ◌<◌, ◌≤◌, Bool, true, false, ◌||◌, length, if◌then◌else◌, Decides};
 ghost use Rattle.std.specs.Str.{IsCharBoundary};
-ghost use Rattle.std.specs.List.{AllByRecursion as All};
+ghost use Rattle.std.specs.List.{AllByRecursion};
 ghost use Rattle.source.specs.View.{text_of, place_of};
 ghost use Rattle.scanner.specs.Ecma.{LineTerminatorIn, Gap, GapIs, CutOut};
 ghost use Rattle.scanner.specs.Gaps.{comment_shape, irregular_shape, newline_in, after, gap_from, measured, counted, unended};
@@ -129,7 +129,7 @@ pub fn measure_gap(
     ensures value { result ≡ measured last_comment last_space (gap_from (text_of source.now) (place_of source.now)) }
     ensures gap { GapIs (text_of source.now) (place_of source.now) (gap_from (text_of source.now) (place_of source.now)) }
     ensures only { (g : Gap) → GapIs (text_of source.now) (place_of source.now) g → (g ≡ gap_from (text_of source.now) (place_of source.now)) × (result ≡ measured last_comment last_space g) }
-    ensures cuts { All (CutOut (text_of source.now)) (gap_from (text_of source.now) (place_of source.now)).pieces }
+    ensures cuts { AllByRecursion (CutOut (text_of source.now)) (gap_from (text_of source.now) (place_of source.now)).pieces }
     ensures newline { Decides result.newline (LineTerminatorIn (text_of source.now) (place_of source.now) (if result.unterminated then length (text_of source.now) else result.end)) }
     ensures cut { IsCharBoundary (text_of source.now) result.end }
 {
