@@ -1,5 +1,5 @@
 -- One piece after another feeds the whole gap.
-use Rattle.std.proofs.Common.{◌≡◌, ℕ, zero, suc, ◌+◌, ◌<◌, ◌≤◌, List, length, sym, refl, ap, ◌∙◌, subst, arith}
+use Rattle.std.proofs.Common.{◌≡◌, ℕ, zero, suc, ◌+◌, ◌<◌, ◌≤◌, List, length, sym, refl, subst, arith}
 use Rattle.scanner.specs.Ecma.{Shape, Standing, piece, unterminated, nothing}
 use Rattle.scanner.specs.Pieces.{piece_at}
 use Rattle.scanner.specs.View.{standing_of}

@@ -1,5 +1,5 @@
 -- One piece after another comes to the whole gap.
-use Rattle.std.proofs.Common.{◌≡◌, ℕ, zero, suc, ◌+◌, ◌<◌, ◌≤◌, Bool, true, false, cond, ◌&&◌, List, length, MatchBool, sym, refl, ap, ◌∙◌, subst, arith}
+use Rattle.std.proofs.Common.{◌≡◌, ℕ, zero, suc, ◌+◌, ◌<◌, ◌≤◌, Bool, true, false, cond, ◌&&◌, List, length, MatchBool, sym, refl, ap, ◌∙◌, arith}
 use Rattle.scanner.specs.Ecma.{Shape, Standing, piece}
 use Rattle.scanner.specs.Pieces.{piece_at}
 use Rattle.reader.specs.declared.gap.Gap.{Gap}

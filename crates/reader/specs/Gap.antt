@@ -1,5 +1,5 @@
 -- The gap at a place of a text: the pieces one after another, up to where none stands.
-use Rattle.std.specs.Prelude.{◌≡◌, ℕ, zero, suc, ◌+◌, ◌-◌, Bool, true, false, cond, ◌&&◌, ◌||◌, List, length, nat_lt}
+use Rattle.std.specs.Prelude.{ℕ, zero, suc, ◌+◌, ◌-◌, Bool, true, false, cond, ◌&&◌, ◌||◌, List, length, nat_lt}
 use Rattle.scanner.specs.Ecma.{Shape, space, newline, irregular_space, irregular_newline, line, block, Standing, piece, unterminated, nothing}
 use Rattle.scanner.specs.Pieces.{piece_at}
 use Rattle.reader.specs.declared.gap.Gap.{Gap}

@@ -4,3 +4,4 @@ pub mod Feeding
 pub mod View
 pub mod Examples
 pub mod Worked
+pub mod Chained

@@ -1,5 +1,5 @@
 -- What a reader and its tables hold.
-use Rattle.std.specs.Prelude.{◌≡◌, ℕ, ◌-◌, ◌<◌, ◌≤◌, Bool, true, false, List, [], length, None, Ok, Err, IsUtf8, Result, ◌==◌}
+use Rattle.std.specs.Prelude.{◌≡◌, ℕ, ◌-◌, ◌<◌, ◌≤◌, Bool, false, List, [], length, None, Ok, Err, IsUtf8, Result, ◌==◌}
 use Rattle.std.specs.Str.{IsCharBoundary}
 use Rattle.kinds.specs.Kinds.{number_of}
 use Rattle.refusals.specs.declared.Refusal.{Refusal}

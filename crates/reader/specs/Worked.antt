@@ -1,10 +1,10 @@
 -- Readings worked out by hand, from the bytes of a text to its comment rows and its last token.
-use Rattle.std.specs.Prelude.{◌≡◌, ℕ, zero, suc, ◌+◌, Bool, true, false, cond, ◌&&◌, ◌||◌, List, [], ◌∷◌, ◌++◌, map, length, take, replicate, Some, None, codes, Option, ◌==◌, nat_le, slice_index, slice_set}
+use Rattle.std.specs.Prelude.{◌≡◌, ℕ, zero, suc, ◌+◌, Bool, true, false, cond, ◌&&◌, List, [], ◌∷◌, ◌++◌, map, length, take, replicate, Some, None, codes, Option, ◌==◌, nat_le, slice_index, slice_set}
 use Rattle.kinds.specs.declared.kind.Kind.{Kind}
 use Rattle.kinds.specs.declared.kind.Kind.TheVariants.{Eof, Ident, Eq, Plus}
 use Rattle.comments.specs.declared.comment.Comment.{Comment}
 use Rattle.comments.specs.declared.comment.CommentKind.{CommentKind}
-use Rattle.comments.specs.declared.comment.CommentKind.TheVariants.{Line, SingleLineBlock, MultiLineBlock}
+use Rattle.comments.specs.declared.comment.CommentKind.TheVariants.{Line, SingleLineBlock}
 use Rattle.comments.specs.declared.comment.CommentContent.{CommentContent}
 use Rattle.comments.specs.declared.comment.CommentContent.TheVariants as class
 use Rattle.comments.specs.declared.comment.CommentPosition.{CommentPosition}

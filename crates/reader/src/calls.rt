@@ -2,6 +2,7 @@
 ghost use Rattle.std.specs.Prelude.{◌≡◌, min, length, Option};
 ghost use Rattle.reader.specs.Reading.{fitting, unless, opening_refusal};
 ghost use Rattle.reader.specs.View.{reader_text, Opened, reading, row_of, Taken, ReadTo};
+ghost use Rattle.reader.specs.Chained.{ScannerGap, OpenedOctets};
 
 use crate::feed::feed_gap;
 use crate::gap::{Gap, measure_gap};
@@ -58,7 +59,8 @@ fn make_row(found: Found, builder: &TriviaBuilder) -> TokenRow
 impl<'t> Reader<'t> {
     // Opens a text of at most `limit` bytes. One that is too long or not UTF-8 is refused, and each later call then says so.
     pub fn open(bytes: &'t [u8], limit: usize) -> Self
-        ensures { Opened bytes.now (min limit 4294967039) result }
+        ensures opened { Opened bytes.now (min limit 4294967039) result }
+        ensures octets { OpenedOctets bytes.now (min limit 4294967039) result }
     {
         let most = if limit < MAX_LEN { limit } else { MAX_LEN };
         if bytes.len() > most {
@@ -170,6 +172,7 @@ impl<'t> Reader<'t> {
     ) -> Result<(), Refusal>
         ensures answer { result ≡ unless (reading R.banged (R.telling r.now) self.old tokens.old comments.old spaces.old) }
         ensures left { ReadTo (reading R.banged (R.telling r.now) self.old tokens.old comments.old spaces.old) self.old self.new tokens.old tokens.new comments.old comments.new spaces.old spaces.new }
+        ensures gap { ScannerGap self.old comments.old spaces.old }
         ensures lenders { (tokens.new.rows.ghost_name ≡ tokens.old.rows.ghost_name) × ((comments.new.rows.ghost_name ≡ comments.old.rows.ghost_name) × (spaces.new.rows.ghost_name ≡ spaces.old.rows.ghost_name)) }
     {
         match self.look(r, tokens, comments, spaces) {

@@ -1,6 +1,7 @@
 #![tactic(auto)]
 // A settings text, JSON with comments, read to its end in tables of fixed sizes and listed.
 ghost use Rattle.std.specs.Prelude.{◌≡◌, ◌<◌, ◌≤◌, length, Err, IsUtf8, OnErr};
+ghost use Rattle.source.specs.Rfc3629.{Utf8Octets};
 ghost use Rattle.refusals.specs.declared.Refusal.TheVariants.{TooLong, NotUtf8};
 ghost use Rattle.listing.specs.Bytes.{laid};
 ghost use Rattle.listing.specs.Listing.{refusal_line};
@@ -70,6 +71,7 @@ fn read_to_eof(
 fn list_settings(text: &[u8], out: &mut [u8]) -> Result<usize, Refusal>
     ensures too_long { 32768 < length text.now → result ≡ Err TooLong }
     ensures not_utf8 { length text.now ≤ 32768 → (IsUtf8 text.now → ⊥) → result ≡ Err NotUtf8 }
+    ensures not_octets { length text.now ≤ 32768 → (Utf8Octets text.now → ⊥) → result ≡ Err NotUtf8 }
     ensures refused { OnErr result (out.new ≡ out.old) }
 {
     let mut token_rows = [NO_TOKEN; TOKENS];
@@ -90,6 +92,7 @@ fn list_settings(text: &[u8], out: &mut [u8]) -> Result<usize, Refusal>
 pub fn answer(text: &[u8], out: &mut [u8]) -> usize
     ensures too_long { 32768 < length text.now → out.new ≡ laid out.old 0 (refusal_line TooLong) }
     ensures not_utf8 { length text.now ≤ 32768 → (IsUtf8 text.now → ⊥) → out.new ≡ laid out.old 0 (refusal_line NotUtf8) }
+    ensures not_octets { length text.now ≤ 32768 → (Utf8Octets text.now → ⊥) → out.new ≡ laid out.old 0 (refusal_line NotUtf8) }
     ensures within { result ≤ length out.old }
 {
     let n = match list_settings(text, out) {

@@ -1,6 +1,6 @@
-use Rattle.std.proofs.Common.{◌≡◌, ℕ, ◌<◌, ◌≤◌, List, length, sym, refl, ap, ◌∙◌, subst, arith, Bor, rules}
+use Rattle.std.proofs.Common.{◌≡◌, ℕ, List, length, sym, refl, ap, ◌∙◌, subst, arith, Bor, rules}
 use Rattle.source.specs.View.{text_of, place_of}
-use Rattle.scanner.specs.Ecma.{Shape, Standing, piece}
+use Rattle.scanner.specs.Ecma.{Shape, piece}
 use Rattle.scanner.specs.Pieces.{piece_at}
 use Rattle.scanner.specs.View.{shape_of, standing_of}
 use Rattle.reader.specs.Feeding.{Tables, tables_of, FedBy}

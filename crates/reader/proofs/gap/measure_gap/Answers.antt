@@ -1,10 +1,10 @@
-use Rattle.std.proofs.Common.{◌≡◌, ℕ, ◌<◌, ◌≤◌, Bool, List, length, sym, refl, ap, ◌∙◌, subst, arith, Bor}
+use Rattle.std.proofs.Common.{◌≡◌, ℕ, Bool, List, length, sym, refl, ap, ◌∙◌, subst, arith, Bor}
 use Rattle.source.specs.View.{text_of, place_of}
 use Rattle.scanner.specs.Ecma.{Shape, piece}
 use Rattle.scanner.specs.Pieces.{piece_at}
 use Rattle.scanner.specs.View.{shape_of}
 use Rattle.reader.specs.declared.gap.Gap.{Gap}
-use Rattle.reader.specs.Gap.{empty_gap, counted}
+use Rattle.reader.specs.Gap.{empty_gap}
 use Rattle.reader.specs.View.{new_in, comment_start, span_start}
 use Rattle.reader.proofs.Gaps.{Going, going_start, going_more, moves}
 use Rattle.reader.proofs.gap.measure_gap.Goals as goal

@@ -1,7 +1,6 @@
 -- What is left of the gap makes the same gap, in as many pieces as there are bytes left.
-use Rattle.std.proofs.Common.{◌≡◌, ℕ, suc, ◌+◌, ◌-◌, ◌≤◌, length}
+use Rattle.std.proofs.Common.{◌≡◌, ◌-◌, length}
 use Rattle.source.specs.View.{text_of, place_of}
-use Rattle.reader.specs.Gap.{gap_on, gap_at}
 use Rattle.reader.specs.View.{new_in, comment_start, span_start}
 use Rattle.reader.proofs.Gaps.{Going}
 use Rattle.reader.proofs.gap.measure_gap.Given as goal

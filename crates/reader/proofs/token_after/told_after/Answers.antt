@@ -1,4 +1,4 @@
-use Rattle.std.proofs.Common.{◌≡◌, ℕ, Some, IsUtf8, Option, sym, refl, ap, ◌∙◌, subst, arith, rules}
+use Rattle.std.proofs.Common.{ℕ, Some, IsUtf8, Option, sym, ap, ◌∙◌, subst, arith, rules}
 use Rattle.std.specs.Str.{IsCharBoundary}
 use Rattle.tokens.specs.declared.token_reader.Told.{Told}
 use Rattle.tokens.specs.Telling.{Fair, FairAt}

@@ -1,0 +1,93 @@
+-- What is counted and fed piece by piece is the scanner's gap, and opening goes by the syntax of RFC 3629.
+use Rattle.std.proofs.Common.{◌≡◌, ℕ, zero, suc, ◌+◌, Bool, true, false, cond, ltb, ◌&&◌, ◌||◌, eqb, List, length, Some, None, Option, sym, refl, ap, ◌∙◌, add_assoc, zero-add, add-zero}
+use Rattle.source.proofs.Octets.{utf8_from_octets, octets_from_utf8}
+use Rattle.table.specs.declared.Table.{Table}
+use Rattle.table.specs.Order.{starts, last_start, follows}
+use Rattle.table.specs.View.{rows_of, count_of}
+use Rattle.comments.specs.declared.comment.Comment.{Comment}
+use Rattle.builder.specs.declared.span.Span.{Span}
+use Rattle.scanner.specs.declared.gap.GapMeasure.{GapMeasure}
+use Rattle.scanner.specs.Ecma.{Standing, piece, unterminated, nothing}
+use Rattle.scanner.specs.Pieces.{piece_at}
+use Rattle.scanner.specs.Gaps.{after, measured}
+use Rattle.scanner.specs.Gaps.{gap_by as list_by, gap_on as list_on, how_many, newline_among, comment_after, irregular_after}
+use Rattle.reader.specs.declared.Reader.{Reader}
+use Rattle.reader.specs.declared.gap.Gap.{Gap}
+use Rattle.reader.specs.Feeding.{Tables, FedOnward, FedOn}
+use Rattle.reader.specs.Gap.{comment_shape, irregular_shape, newline_in, empty_gap, counted, onward, gap_on}
+use Rattle.reader.specs.View.{comment_start, span_start, reader_text, reader_place, Opened}
+use Rattle.reader.specs.Chained.{last_in, FedAll, ScannerGap, OpenedOctets}
+
+same_gap : (e c c' s s' : ℕ) (n n' u u' : Bool) → c ≡ c' → s ≡ s' → n ≡ n' → u ≡ u' → ◌≡◌ {A = Gap} (record { end = e; comments = c; spaces = s; newline = n; unterminated = u }) (record { end = e; comments = c'; spaces = s'; newline = n'; unterminated = u' })
+same_gap e c c' s s' n n' u u' a b d f = cc
+
+or_assoc : (a b c : Bool) → ((a || b) || c) ≡ (a || (b || c))
+or_assoc true b c = refl
+or_assoc false b c = refl
+
+or_join : (a b c d : Bool) → ((a || b) || (c || d)) ≡ (a || ((b || c) || d))
+or_join true b c d = refl
+or_join false true c d = refl
+or_join false false c d = refl
+
+or_none : (a b : Bool) → (a || b) ≡ (a || (false || b))
+or_none true b = refl
+or_none false b = refl
+
+or_nothing : (a : Bool) → a ≡ (a || (false || false))
+or_nothing true = refl
+or_nothing false = refl
+
+-- a gap that goes on with a measure
+abbrev joined : Gap → GapMeasure → Gap
+joined g m = record { end = m.end; comments = g.comments + m.comments; spaces = g.spaces + m.spaces; newline = g.newline || m.newline; unterminated = m.unterminated }
+
+module _ (newComment newSpace : ℕ → Bool) (lastComment lastSpace : Option ℕ) (comment-new : (k : ℕ) → newComment k ≡ after lastComment k) (space-new : (k : ℕ) → newSpace k ≡ after lastSpace k) (text : List ℕ) where
+  more : (test here there : Bool) (a n : ℕ) → here ≡ there → a + cond (test && here) 1 0 + n ≡ a + (cond (test && there) 1 0 + n)
+  more test here there a n e = ap (λ (b : Bool). a + cond (test && b) 1 0 + n) e ∙ add_assoc a (cond (test && there) 1 0) n
+
+  by_standing : (n : ℕ) (g : Gap) → g.unterminated ≡ false → ((h : Gap) → h.unterminated ≡ false → gap_on newComment newSpace text n h ≡ joined h (measured lastComment lastSpace (list_on text n h.end)))
+      → (x : Standing) → onward newComment newSpace x (gap_on newComment newSpace text n) g ≡ joined g (measured lastComment lastSpace (list_by x (list_on text n) g.end))
+  by_standing n g plain on (piece start end shape) =
+      on (counted newComment newSpace g start end shape) refl
+      ∙ same_gap _ _ _ _ _ _ _ _ _
+      (more (comment_shape shape) (newComment start) (after lastComment start) g.comments (how_many (comment_after lastComment) (list_on text n end).pieces) (comment-new start))
+      (more (irregular_shape shape) (newSpace start) (after lastSpace start) g.spaces (how_many (irregular_after lastSpace) (list_on text n end).pieces) (space-new start))
+      (or_join g.newline (newline_in start end shape) (newline_among (list_on text n end).pieces) _) refl
+  by_standing n g plain on (unterminated multi) = same_gap g.end _ _ _ _ _ _ _ _ (sym (add-zero g.comments)) (sym (add-zero g.spaces)) (or_none g.newline multi) refl
+  by_standing n g plain on nothing = same_gap g.end _ _ _ _ _ _ _ _ (sym (add-zero g.comments)) (sym (add-zero g.spaces)) (or_nothing g.newline) plain
+
+  joins : (n : ℕ) (g : Gap) → g.unterminated ≡ false → gap_on newComment newSpace text n g ≡ joined g (measured lastComment lastSpace (list_on text n g.end))
+  joins zero g plain = same_gap g.end _ _ _ _ _ _ _ _ (sym (add-zero g.comments)) (sym (add-zero g.spaces)) (or_nothing g.newline) plain
+  joins (suc n) g plain = by_standing n g plain (λ h. joins n h) (piece_at text g.end)
+
+-- a row is new exactly if it starts after the last
+picks : (b : Bool) (x start : ℕ) → cond b true (ltb x start) ≡ after (cond b None (Some x)) start
+picks true x start = refl
+picks false x start = refl
+
+follows_last : (ss : List ℕ) (start : ℕ) → follows ss start ≡ after (last_start ss) start
+follows_last ss start = picks (eqb (length ss) 0) _ start
+
+feeds_by : (text : List ℕ) (n at : ℕ) (s t : Tables) → ((end : ℕ) (m : Tables) → FedOn text n end m t → FedAll text (list_on text n end).pieces m t)
+    → (x : Standing) → FedOnward text x (FedOn text n) s t → FedAll text (list_by x (list_on text n) at).pieces s t
+feeds_by text n at s t on (piece start end shape) k = (k.0, k.1, on end k.0 k.2)
+feeds_by text n at s t on (unterminated multi) e = e
+feeds_by text n at s t on nothing e = e
+
+feeds : (text : List ℕ) (n at : ℕ) (s t : Tables) → FedOn text n at s t → FedAll text (list_on text n at).pieces s t
+feeds text zero at s t e = e
+feeds text (suc n) at s t h = feeds_by text n at s t (λ end m. feeds text n end m t) (piece_at text at) h
+
+pub scanner_gap : (r : Reader) (comments : Table Comment) (spaces : Table Span) → ScannerGap r comments spaces
+scanner_gap r comments spaces =
+    let text = reader_text r in
+    let at = reader_place r in
+    record {
+      measure = joins _ _ (last_in comment_start comments) (last_in span_start spaces) (follows_last (starts comment_start (rows_of comments) (count_of comments))) (follows_last (starts span_start (rows_of spaces) (count_of spaces))) text (suc (length text)) (empty_gap at) refl
+          ∙ same_gap _ _ _ _ _ _ _ _ _ (zero-add _) (zero-add _) refl refl;
+      pieces = λ s t h. feeds text (suc (length text)) at s t h;
+    }
+
+pub opened_octets : (bytes : List ℕ) (limit : ℕ) (r : Reader) → Opened bytes limit r → OpenedOctets bytes limit r
+opened_octets bytes limit r h = record { wrong = λ le none. h.wrong le (λ u. none (octets_from_utf8 bytes u)); fine = λ le u. h.fine le (utf8_from_octets u) }
