@@ -1,5 +1,5 @@
 -- A listing that fits is written whole.
-use Rattle.std.proofs.Common.{◌≡◌, ℕ, ◌<◌, ◌≤◌, min, Bool, cond, ltb, List, ◌++◌, length, drop, None, Ok, Err, Option, Result, sym, refl, ap, ◌∙◌, subst, arith, le-ltb}
+use Rattle.std.proofs.Common.{◌≡◌, ℕ, ◌<◌, ◌≤◌, min, Bool, cond, List, ◌++◌, length, drop, None, Ok, Err, Option, Result, sym, ap, ◌∙◌, arith, le-ltb}
 use Rattle.refusals.specs.declared.Refusal.{Refusal}
 use Rattle.refusals.specs.declared.Refusal.TheVariants.{ListingTooLong}
 use Rattle.listing.specs.Bytes.{laid}

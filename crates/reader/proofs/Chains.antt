@@ -42,22 +42,22 @@ or_nothing false = refl
 abbrev joined : Gap → GapMeasure → Gap
 joined g m = record { end = m.end; comments = g.comments + m.comments; spaces = g.spaces + m.spaces; newline = g.newline || m.newline; unterminated = m.unterminated }
 
-module _ (newComment newSpace : ℕ → Bool) (lastComment lastSpace : Option ℕ) (comment-new : (k : ℕ) → newComment k ≡ after lastComment k) (space-new : (k : ℕ) → newSpace k ≡ after lastSpace k) (text : List ℕ) where
+module _ (new_comment new_space : ℕ → Bool) (last_comment last_space : Option ℕ) (comment_new : (k : ℕ) → new_comment k ≡ after last_comment k) (space_new : (k : ℕ) → new_space k ≡ after last_space k) (text : List ℕ) where
   more : (test here there : Bool) (a n : ℕ) → here ≡ there → a + cond (test && here) 1 0 + n ≡ a + (cond (test && there) 1 0 + n)
   more test here there a n e = ap (λ (b : Bool). a + cond (test && b) 1 0 + n) e ∙ add_assoc a (cond (test && there) 1 0) n
 
-  by_standing : (n : ℕ) (g : Gap) → g.unterminated ≡ false → ((h : Gap) → h.unterminated ≡ false → gap_on newComment newSpace text n h ≡ joined h (measured lastComment lastSpace (list_on text n h.end)))
-      → (x : Standing) → onward newComment newSpace x (gap_on newComment newSpace text n) g ≡ joined g (measured lastComment lastSpace (list_by x (list_on text n) g.end))
+  by_standing : (n : ℕ) (g : Gap) → g.unterminated ≡ false → ((h : Gap) → h.unterminated ≡ false → gap_on new_comment new_space text n h ≡ joined h (measured last_comment last_space (list_on text n h.end)))
+      → (x : Standing) → onward new_comment new_space x (gap_on new_comment new_space text n) g ≡ joined g (measured last_comment last_space (list_by x (list_on text n) g.end))
   by_standing n g plain on (piece start end shape) =
-      on (counted newComment newSpace g start end shape) refl
+      on (counted new_comment new_space g start end shape) refl
       ∙ same_gap _ _ _ _ _ _ _ _ _
-      (more (comment_shape shape) (newComment start) (after lastComment start) g.comments (how_many (comment_after lastComment) (list_on text n end).pieces) (comment-new start))
-      (more (irregular_shape shape) (newSpace start) (after lastSpace start) g.spaces (how_many (irregular_after lastSpace) (list_on text n end).pieces) (space-new start))
+      (more (comment_shape shape) (new_comment start) (after last_comment start) g.comments (how_many (comment_after last_comment) (list_on text n end).pieces) (comment_new start))
+      (more (irregular_shape shape) (new_space start) (after last_space start) g.spaces (how_many (irregular_after last_space) (list_on text n end).pieces) (space_new start))
       (or_join g.newline (newline_in start end shape) (newline_among (list_on text n end).pieces) _) refl
   by_standing n g plain on (unterminated multi) = same_gap g.end _ _ _ _ _ _ _ _ (sym (add-zero g.comments)) (sym (add-zero g.spaces)) (or_none g.newline multi) refl
   by_standing n g plain on nothing = same_gap g.end _ _ _ _ _ _ _ _ (sym (add-zero g.comments)) (sym (add-zero g.spaces)) (or_nothing g.newline) plain
 
-  joins : (n : ℕ) (g : Gap) → g.unterminated ≡ false → gap_on newComment newSpace text n g ≡ joined g (measured lastComment lastSpace (list_on text n g.end))
+  joins : (n : ℕ) (g : Gap) → g.unterminated ≡ false → gap_on new_comment new_space text n g ≡ joined g (measured last_comment last_space (list_on text n g.end))
   joins zero g plain = same_gap g.end _ _ _ _ _ _ _ _ (sym (add-zero g.comments)) (sym (add-zero g.spaces)) (or_nothing g.newline) plain
   joins (suc n) g plain = by_standing n g plain (λ h. joins n h) (piece_at text g.end)
 

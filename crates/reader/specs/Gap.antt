@@ -35,10 +35,10 @@ empty_gap at = record { end = at; comments = 0; spaces = 0; newline = false; unt
 
 -- a gap with one piece more; whether a comment or a space is new is told by where it starts
 abbrev pub counted : (ℕ → Bool) → (ℕ → Bool) → Gap → ℕ → ℕ → Shape → Gap
-counted newComment newSpace g start end shape = record {
+counted new_comment new_space g start end shape = record {
   end = end;
-  comments = g.comments + cond (comment_shape shape && newComment start) 1 0;
-  spaces = g.spaces + cond (irregular_shape shape && newSpace start) 1 0;
+  comments = g.comments + cond (comment_shape shape && new_comment start) 1 0;
+  spaces = g.spaces + cond (irregular_shape shape && new_space start) 1 0;
   newline = g.newline || newline_in start end shape;
   unterminated = false;
 }
@@ -49,15 +49,15 @@ unended g multi = record { end = g.end; comments = g.comments; spaces = g.spaces
 
 -- on by what stands where the gap has come to
 abbrev pub onward : (ℕ → Bool) → (ℕ → Bool) → Standing → (Gap → Gap) → Gap → Gap
-onward newComment newSpace (piece start end shape) go g = go (counted newComment newSpace g start end shape)
-onward newComment newSpace (unterminated multi) go g = unended g multi
-onward newComment newSpace nothing go g = g
+onward new_comment new_space (piece start end shape) go g = go (counted new_comment new_space g start end shape)
+onward new_comment new_space (unterminated multi) go g = unended g multi
+onward new_comment new_space nothing go g = g
 
 -- at most n pieces more
 abbrev pub gap_on : (ℕ → Bool) → (ℕ → Bool) → List ℕ → ℕ → Gap → Gap
-gap_on newComment newSpace text zero g = g
-gap_on newComment newSpace text (suc n) g = onward newComment newSpace (piece_at text g.end) (gap_on newComment newSpace text n) g
+gap_on new_comment new_space text zero g = g
+gap_on new_comment new_space text (suc n) g = onward new_comment new_space (piece_at text g.end) (gap_on new_comment new_space text n) g
 
 -- a text has no more pieces than bytes
 abbrev pub gap_at : (ℕ → Bool) → (ℕ → Bool) → List ℕ → ℕ → Gap
-gap_at newComment newSpace text at = gap_on newComment newSpace text (suc (length text)) (empty_gap at)
+gap_at new_comment new_space text at = gap_on new_comment new_space text (suc (length text)) (empty_gap at)

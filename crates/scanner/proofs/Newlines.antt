@@ -165,7 +165,7 @@ pub record Measures (text : List ℕ) (at : ℕ) (m : GapMeasure) : Type 0 where
   pub newline : Decides m.newline (LineTerminatorIn text at (cond m.unterminated (length text) m.end))
   pub cut : IsCharBoundary text m.end
 
-pub measures : (text : List ℕ) (at : ℕ) (lastComment lastSpace : Option ℕ) (m : GapMeasure) → IsUtf8 text → IsCharBoundary text at → m ≡ measured lastComment lastSpace (gap_from text at) → Measures text at m
-measures text at lastComment lastSpace m u here e =
+pub measures : (text : List ℕ) (at : ℕ) (last_comment last_space : Option ℕ) (m : GapMeasure) → IsUtf8 text → IsCharBoundary text at → m ≡ measured last_comment last_space (gap_from text at) → Measures text at m
+measures text at last_comment last_space m u here e =
     let is = gap_is text u at here in
     subst (Measures text at) (sym e) (record { gap = is; only = gap_only text u at here; cuts = gap_cuts text u at (gap_from text at) here is; newline = gap_newline text u at (gap_from text at) here is; cut = (gap_cut text u at (gap_from text at) here is).1 })

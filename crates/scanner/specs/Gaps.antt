@@ -71,20 +71,20 @@ how_many test (p ∷ pieces) = cond (test p) 1 0 + how_many test pieces
 -- how many comments and irregular spaces of a gap start after a place each, whether a line terminator stands in the gap or in the
 -- unterminated block at its end, and whether there is such a block
 abbrev pub measured : Option ℕ → Option ℕ → Gap → GapMeasure
-measured lastComment lastSpace g = record {
+measured last_comment last_space g = record {
   end = g.end;
-  comments = how_many (comment_after lastComment) g.pieces;
-  spaces = how_many (irregular_after lastSpace) g.pieces;
+  comments = how_many (comment_after last_comment) g.pieces;
+  spaces = how_many (irregular_after last_space) g.pieces;
   newline = newline_among g.pieces || unwrap_or g.unended false;
   unterminated = is_some g.unended;
 }
 
 -- a measure with one piece more
 abbrev pub counted : Option ℕ → Option ℕ → GapMeasure → ℕ → ℕ → Shape → GapMeasure
-counted lastComment lastSpace g start end shape = record {
+counted last_comment last_space g start end shape = record {
   end = end;
-  comments = g.comments + cond (comment_shape shape && after lastComment start) 1 0;
-  spaces = g.spaces + cond (irregular_shape shape && after lastSpace start) 1 0;
+  comments = g.comments + cond (comment_shape shape && after last_comment start) 1 0;
+  spaces = g.spaces + cond (irregular_shape shape && after last_space start) 1 0;
   newline = g.newline || newline_in start end shape;
   unterminated = false;
 }

@@ -1,7 +1,7 @@
 -- The steps of a search by halving in rising starts.
-use Rattle.std.proofs.Common.{◌≡◌, ℕ, ◌+◌, ◌<◌, ◌≤◌, List, length, get_or, Some, None, sym, subst, ⊎_elim, arith}
+use Rattle.std.proofs.Common.{◌≡◌, ℕ, ◌+◌, ◌<◌, ◌≤◌, List, length, get_or, None, subst, ⊎_elim, arith}
 use Rattle.std.proofs.lemmas.Bool.{cases_lt}
-use Rattle.table.specs.Order.{Rising, Parted, Found}
+use Rattle.table.specs.Order.{Parted, Found}
 
 pub parted_none : (ss : List ℕ) (place high : ℕ) → high ≡ length ss → Parted ss place 0 high
 parted_none ss place high e rising = ((λ k lt. absurd (omega arith)), (λ k ge lt. absurd (omega arith)))

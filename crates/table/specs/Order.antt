@@ -1,5 +1,5 @@
 -- Appending to rows that are kept in the order of where they start.
-use Rattle.std.specs.Prelude.{◌≡◌, ℕ, ◌+◌, ◌-◌, ◌<◌, ◌≤◌, Bool, true, false, cond, List, [], ◌∷◌, map, length, take, Some, None, Option, ◌==◌, ◌≢◌, nat_lt, slice_index, slice_set}
+use Rattle.std.specs.Prelude.{◌≡◌, ℕ, ◌+◌, ◌-◌, ◌<◌, ◌≤◌, Bool, true, cond, List, map, length, take, Some, None, Option, ◌==◌, ◌≢◌, nat_lt, slice_index, slice_set}
 use Rattle.table.specs.declared.Appended.{Appended}
 use Rattle.table.specs.declared.Appended.TheVariants.{Added, Dropped, Full}
 

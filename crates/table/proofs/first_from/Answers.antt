@@ -1,4 +1,4 @@
-use Rattle.std.proofs.Common.{◌≡◌, ◌+◌, ◌-◌, ◌/◌, ◌<◌, length, get_or, sym, ◌∙◌, arith, rules}
+use Rattle.std.proofs.Common.{◌+◌, ◌-◌, ◌/◌, ◌<◌, length, get_or, sym, ◌∙◌, arith}
 use Rattle.table.specs.Order.{starts}
 use Rattle.table.proofs.Last.{starts_long}
 use Rattle.table.proofs.Halving.{parted_none, parted_up}

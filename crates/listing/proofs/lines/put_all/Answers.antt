@@ -1,4 +1,4 @@
-use Rattle.std.proofs.Common.{◌≡◌, ℕ, List, ◌++◌, sym, refl, ap, ◌∙◌, subst, rules}
+use Rattle.std.proofs.Common.{ℕ, List, ◌++◌, subst, rules}
 use Rattle.table.specs.View.{kept_of}
 use Rattle.reader.specs.declared.token_row.TokenRow.{TokenRow}
 use Rattle.listing.specs.Bytes.{Wrote, line_of}

@@ -1,4 +1,4 @@
-use Rattle.std.proofs.Common.{◌≡◌, ℕ, ◌<◌, min, List, length, sym, refl, ap, ◌∙◌, subst, arith}
+use Rattle.std.proofs.Common.{ℕ, ◌<◌, min, List, length, ap, ◌∙◌, arith}
 use Rattle.table.specs.View.{kept_of}
 use Rattle.reader.specs.Reading.{opening_refusal}
 use Rattle.reader.specs.View.{reader_text}

@@ -1,5 +1,4 @@
-use Rattle.std.proofs.Common.{◌≡◌, ℕ, [], ◌∷◌, ◌∙◌, subst, rules}
-use Rattle.refusals.specs.Numbers.{number_of}
+use Rattle.std.proofs.Common.{ℕ, [], ◌∷◌, ◌∙◌, subst, rules}
 use Rattle.listing.specs.Bytes.{Wrote, line_of}
 use Rattle.listing.specs.Listing.{refusal_line}
 use Rattle.listing.proofs.Laid.{wrote_none}

@@ -1,4 +1,4 @@
-use Rattle.std.proofs.Common.{◌≡◌, [], ◌∙◌, rules}
+use Rattle.std.proofs.Common.{[], ◌∙◌, rules}
 use Rattle.listing.proofs.Laid.{wrote_none}
 use Rattle.listing.proofs.list.write_out.Goals as goal
 

@@ -17,8 +17,8 @@ loop-gap-init c =
 
 pub loop-gap-preserved : goal.loop-gap-preserved
 loop-gap-preserved c =
-    let newComment : ℕ → Bool = new_in comment_start c.args.comments.now in
-    let newSpace : ℕ → Bool = new_in span_start c.args.spaces.now in
+    let new_comment : ℕ → Bool = new_in comment_start c.args.comments.now in
+    let new_space : ℕ → Bool = new_in span_start c.args.spaces.now in
     let text : List ℕ = text_of c.args.source.now in
     let start : ℕ = c.in-Found.piece.start in
     let end : ℕ = c.in-Found.piece.end in
@@ -29,8 +29,8 @@ loop-gap-preserved c =
     let lands = c.in-Found.ensures.lands in
     let goes : place_of c.set_position.new.self ≡ end = moves c.set_position.result _ _ _ _ c.set_position.ensures.place lands.1 in
     let long : length (text_of c.loop-gap.ahead) ≡ length text = ap length same in
-    let Goes : Gap → Type 0 = Going newComment newSpace text (place_of c.args.source.now) in (
+    let Goes : Gap → Type 0 = Going new_comment new_space text (place_of c.args.source.now) in (
       c.set_position.ensures.text ∙ c.loop-gap.invariant.0,
       ap (λ (g : Gap). g.end) c.count_piece-gap.ensures ∙ sym goes,
-      subst Goes (sym c.count_piece-gap.ensures) (going_more newComment newSpace text _ c.loop-gap.gap start end shape stands (omega (arith, at, lands.0)) (omega (arith, long, lands.1.0)) c.loop-gap.invariant.2),
+      subst Goes (sym c.count_piece-gap.ensures) (going_more new_comment new_space text _ c.loop-gap.gap start end shape stands (omega (arith, at, lands.0)) (omega (arith, long, lands.1.0)) c.loop-gap.invariant.2),
     )
