@@ -3,10 +3,10 @@
 
     python3 tools/spell.py [FOLDER]
 
-Functions, lemmas, constructors and fields of specs/ and proofs/ go to snake case, types to upper camel case. A name of the
-code in src/, a name that the toolchain makes for a goal, a string and a comment that quotes neither keep their spelling.
-What is respelt is the list below, from the old name to the new; a name that stands on neither side is left alone.
-Only whole names are replaced, in .rt files only in clauses, ghost items and comments.
+It is run once, after the toolchain's own script. Functions, lemmas, constructors and fields of specs/ and proofs/ go to snake
+case, types to upper camel case. A name of the code in src/, a name that the toolchain makes for a goal, and a string keep their
+spelling. Only whole names are replaced, in .rt files those with a dash only in clauses and ghost items. In the documents a name
+in backticks is replaced if a definition has its new spelling. It prints each old name with the new one.
 """
 import os
 import re
@@ -24,6 +24,9 @@ OWN = {"getD-then": "get_or-then", "getD-within": "get_or-within"}
 
 # a dash joins two names of functions
 DASHED = {"length-laid", "length-then", "get_or-then", "get_or-within", "term-drop"}
+
+# names that definitions and lemmas bind
+BOUND = {"newComment": "new_comment", "newSpace": "new_space", "lastComment": "last_comment", "lastSpace": "last_space"}
 
 # names of the standards, as they stand there
 STANDARD = {"Utf8-1", "Utf8-2", "Utf8-3", "Utf8-4"}
@@ -78,7 +81,7 @@ def defined(root):
 
 
 def names(root):
-    return {name: snake(name) for name in defined(root) if snake(name) != name}
+    return {name: snake(name) for name in defined(root) if snake(name) != name} | BOUND
 
 
 def respell(text, table, clauses_only):
