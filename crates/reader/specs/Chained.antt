@@ -1,5 +1,5 @@
--- The gap that a reader counts and feeds piece by piece is the scanner's, which is the longest chain of pieces (Ecma), and opening
--- goes by the syntax of RFC 3629.
+-- The gap that a reader counts and feeds piece by piece is the scanner's, of which `measure_gap` says that it is the longest chain of
+-- pieces; and opening goes by the syntax of RFC 3629.
 use Rattle.std.specs.Prelude.{◌≡◌, ℕ, ◌≤◌, List, [], ◌∷◌, length, Option}
 use Rattle.source.specs.Rfc3629.{Utf8Octets}
 use Rattle.table.specs.declared.Table.{Table}
