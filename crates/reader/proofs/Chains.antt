@@ -1,5 +1,7 @@
--- What is counted and fed piece by piece is the scanner's gap, and opening goes by the syntax of RFC 3629.
-use Rattle.std.proofs.Common.{◌≡◌, ℕ, zero, suc, ◌+◌, Bool, true, false, cond, ltb, ◌&&◌, ◌||◌, eqb, List, length, Some, None, Option, sym, refl, ap, ◌∙◌, add_assoc, zero-add, add-zero}
+-- A reading goes over the scanner's gap, and opening by the syntax of RFC 3629.
+use Rattle.std.proofs.Common.{◌≡◌, ℕ, zero, suc, ◌+◌, Bool, true, false, cond, ltb, ◌&&◌, ◌||◌, eqb, List, length, Some, None, Ok, Err, Option, Result, sym, refl, ap, ◌∙◌, subst, add_assoc, zero-add, add-zero}
+use Rattle.std.proofs.Math.Bool.{or_assoc, or-false}
+use Rattle.refusals.specs.declared.Refusal.{Refusal}
 use Rattle.source.proofs.Octets.{utf8_from_octets, octets_from_utf8}
 use Rattle.table.specs.declared.Table.{Table}
 use Rattle.table.specs.Order.{starts, last_start, follows}
@@ -11,32 +13,22 @@ use Rattle.scanner.specs.Ecma.{Standing, piece, unterminated, nothing}
 use Rattle.scanner.specs.Pieces.{piece_at}
 use Rattle.scanner.specs.Gaps.{after, measured}
 use Rattle.scanner.specs.Gaps.{gap_by as list_by, gap_on as list_on, how_many, newline_among, comment_after, irregular_after}
+use Rattle.tokens.specs.Telling.{Telling}
 use Rattle.reader.specs.declared.Reader.{Reader}
 use Rattle.reader.specs.declared.gap.Gap.{Gap}
+use Rattle.reader.specs.declared.token_row.Found.{Found}
+use Rattle.reader.specs.declared.token_row.TokenRow.{TokenRow}
 use Rattle.reader.specs.Feeding.{Tables, FedOnward, FedOn}
 use Rattle.reader.specs.Gap.{comment_shape, irregular_shape, newline_in, empty_gap, counted, onward, gap_on}
-use Rattle.reader.specs.View.{comment_start, span_start, reader_text, reader_place, Opened}
-use Rattle.reader.specs.Chained.{last_in, FedAll, ScannerGap, OpenedOctets}
+use Rattle.reader.specs.Reading.{token_after, fitting, unless, verdict}
+use Rattle.reader.specs.View.{comment_start, span_start, reader_text, reader_place, room_of, gap_before, reading, ReadTo, Opened}
+use Rattle.reader.specs.Chained.{last_in, FedAll, scanner_gap, reading_scanned, PiecesFed, OpenedOctets}
 
 same_gap : (e c c' s s' : ℕ) (n n' u u' : Bool) → c ≡ c' → s ≡ s' → n ≡ n' → u ≡ u' → ◌≡◌ {A = Gap} (record { end = e; comments = c; spaces = s; newline = n; unterminated = u }) (record { end = e; comments = c'; spaces = s'; newline = n'; unterminated = u' })
 same_gap e c c' s s' n n' u u' a b d f = cc
 
-or_assoc : (a b c : Bool) → ((a || b) || c) ≡ (a || (b || c))
-or_assoc true b c = refl
-or_assoc false b c = refl
-
 or_join : (a b c d : Bool) → ((a || b) || (c || d)) ≡ (a || ((b || c) || d))
-or_join true b c d = refl
-or_join false true c d = refl
-or_join false false c d = refl
-
-or_none : (a b : Bool) → (a || b) ≡ (a || (false || b))
-or_none true b = refl
-or_none false b = refl
-
-or_nothing : (a : Bool) → a ≡ (a || (false || false))
-or_nothing true = refl
-or_nothing false = refl
+or_join a b c d = or_assoc a b (c || d) ∙ ap (λ (x : Bool). a || x) (sym (or_assoc b c d))
 
 -- a gap that goes on with a measure
 abbrev joined : Gap → GapMeasure → Gap
@@ -54,11 +46,11 @@ module _ (new_comment new_space : ℕ → Bool) (last_comment last_space : Optio
       (more (comment_shape shape) (new_comment start) (after last_comment start) g.comments (how_many (comment_after last_comment) (list_on text n end).pieces) (comment_new start))
       (more (irregular_shape shape) (new_space start) (after last_space start) g.spaces (how_many (irregular_after last_space) (list_on text n end).pieces) (space_new start))
       (or_join g.newline (newline_in start end shape) (newline_among (list_on text n end).pieces) _) refl
-  by_standing n g plain on (unterminated multi) = same_gap g.end _ _ _ _ _ _ _ _ (sym (add-zero g.comments)) (sym (add-zero g.spaces)) (or_none g.newline multi) refl
-  by_standing n g plain on nothing = same_gap g.end _ _ _ _ _ _ _ _ (sym (add-zero g.comments)) (sym (add-zero g.spaces)) (or_nothing g.newline) plain
+  by_standing n g plain on (unterminated multi) = same_gap g.end _ _ _ _ _ _ _ _ (sym (add-zero g.comments)) (sym (add-zero g.spaces)) refl refl
+  by_standing n g plain on nothing = same_gap g.end _ _ _ _ _ _ _ _ (sym (add-zero g.comments)) (sym (add-zero g.spaces)) (sym (or-false g.newline)) plain
 
   joins : (n : ℕ) (g : Gap) → g.unterminated ≡ false → gap_on new_comment new_space text n g ≡ joined g (measured last_comment last_space (list_on text n g.end))
-  joins zero g plain = same_gap g.end _ _ _ _ _ _ _ _ (sym (add-zero g.comments)) (sym (add-zero g.spaces)) (or_nothing g.newline) plain
+  joins zero g plain = same_gap g.end _ _ _ _ _ _ _ _ (sym (add-zero g.comments)) (sym (add-zero g.spaces)) (sym (or-false g.newline)) plain
   joins (suc n) g plain = by_standing n g plain (λ h. joins n h) (piece_at text g.end)
 
 -- a row is new exactly if it starts after the last
@@ -79,15 +71,27 @@ feeds : (text : List ℕ) (n at : ℕ) (s t : Tables) → FedOn text n at s t �
 feeds text zero at s t e = e
 feeds text (suc n) at s t h = feeds_by text n at s t (λ end m. feeds text n end m t) (piece_at text at) h
 
-pub scanner_gap : (r : Reader) (comments : Table Comment) (spaces : Table Span) → ScannerGap r comments spaces
-scanner_gap r comments spaces =
-    let text = reader_text r in
-    let at = reader_place r in
-    record {
-      measure = joins _ _ (last_in comment_start comments) (last_in span_start spaces) (follows_last (starts comment_start (rows_of comments) (count_of comments))) (follows_last (starts span_start (rows_of spaces) (count_of spaces))) text (suc (length text)) (empty_gap at) refl
-          ∙ same_gap _ _ _ _ _ _ _ _ _ (zero-add _) (zero-add _) refl refl;
-      pieces = λ s t h. feeds text (suc (length text)) at s t h;
-    }
+module _ (r : Reader) (comments : Table Comment) (spaces : Table Span) where
+  same_before : gap_before r comments spaces ≡ scanner_gap r comments spaces
+  same_before =
+      joins _ _ (last_in comment_start comments) (last_in span_start spaces) (follows_last (starts comment_start (rows_of comments) (count_of comments))) (follows_last (starts span_start (rows_of spaces) (count_of spaces))) (reader_text r) (suc (length (reader_text r))) (empty_gap (reader_place r)) refl
+      ∙ same_gap _ _ _ _ _ _ _ _ _ (zero-add _) (zero-add _) refl refl
+
+  module _ (banged : Bool) (tell : Telling) (tokens : Table TokenRow) where
+    same_reading : reading banged tell r tokens comments spaces ≡ reading_scanned banged tell r tokens comments spaces
+    same_reading = ap (λ (g : Gap). verdict r.opening r.ended (fitting g (room_of comments) (room_of spaces) (room_of tokens) (token_after banged tell (reader_text r) g))) same_before
+
+    pub answer_scanned : (x : Result (Unit {0}) Refusal) → x ≡ unless (reading banged tell r tokens comments spaces) → x ≡ unless (reading_scanned banged tell r tokens comments spaces)
+    answer_scanned x e = e ∙ ap (λ (v : Result Found Refusal). unless v) same_reading
+
+    fed_of : (v : Result Found Refusal) (after : Reader) (more : Table TokenRow) (comments' : Table Comment) (spaces' : Table Span) → ReadTo v r after tokens more comments comments' spaces spaces' → PiecesFed v r after comments comments' spaces spaces'
+    fed_of (Ok f) after more comments' spaces' h = (h.fed.0, feeds (reader_text r) (suc (length (reader_text r))) (reader_place r) _ _ h.fed.1, h.fed.2)
+    fed_of (Err e) after more comments' spaces' h = tt
+
+    pub pieces_scanned : (after : Reader) (more : Table TokenRow) (comments' : Table Comment) (spaces' : Table Span) → ReadTo (reading banged tell r tokens comments spaces) r after tokens more comments comments' spaces spaces'
+        → PiecesFed (reading_scanned banged tell r tokens comments spaces) r after comments comments' spaces spaces'
+    pieces_scanned after more comments' spaces' h =
+        let P : Result Found Refusal → Type 0 = λ v. PiecesFed v r after comments comments' spaces spaces' in subst P same_reading (fed_of _ after more comments' spaces' h)
 
 pub opened_octets : (bytes : List ℕ) (limit : ℕ) (r : Reader) → Opened bytes limit r → OpenedOctets bytes limit r
 opened_octets bytes limit r h = record { wrong = λ le none. h.wrong le (λ u. none (octets_from_utf8 bytes u)); fine = λ le u. h.fine le (utf8_from_octets u) }

@@ -2,7 +2,7 @@
 ghost use Rattle.std.specs.Prelude.{◌≡◌, min, length, Option};
 ghost use Rattle.reader.specs.Reading.{fitting, unless, opening_refusal};
 ghost use Rattle.reader.specs.View.{reader_text, Opened, reading, row_of, Taken, ReadTo};
-ghost use Rattle.reader.specs.Chained.{ScannerGap, OpenedOctets};
+ghost use Rattle.reader.specs.Chained.{reading_scanned, PiecesFed, OpenedOctets};
 
 use crate::feed::feed_gap;
 use crate::gap::{Gap, measure_gap};
@@ -172,7 +172,8 @@ impl<'t> Reader<'t> {
     ) -> Result<(), Refusal>
         ensures answer { result ≡ unless (reading R.banged (R.telling r.now) self.old tokens.old comments.old spaces.old) }
         ensures left { ReadTo (reading R.banged (R.telling r.now) self.old tokens.old comments.old spaces.old) self.old self.new tokens.old tokens.new comments.old comments.new spaces.old spaces.new }
-        ensures gap { ScannerGap self.old comments.old spaces.old }
+        ensures scanned { result ≡ unless (reading_scanned R.banged (R.telling r.now) self.old tokens.old comments.old spaces.old) }
+        ensures pieces { PiecesFed (reading_scanned R.banged (R.telling r.now) self.old tokens.old comments.old spaces.old) self.old self.new comments.old comments.new spaces.old spaces.new }
         ensures lenders { (tokens.new.rows.ghost_name ≡ tokens.old.rows.ghost_name) × ((comments.new.rows.ghost_name ≡ comments.old.rows.ghost_name) × (spaces.new.rows.ghost_name ≡ spaces.old.rows.ghost_name)) }
     {
         match self.look(r, tokens, comments, spaces) {
