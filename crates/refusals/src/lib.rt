@@ -3,7 +3,10 @@
 ghost use Rattle.std.specs.Prelude.{◌≡◌};
 ghost use Rattle.refusals.specs.Numbers.{number_of};
 
-#[derive(Clone, Copy)]
+use std::error::Error;
+use std::fmt;
+
+#[derive(Clone, Copy, Debug, PartialEq, Eq)]
 pub enum Refusal {
     // The text is longer than the limit.
     TooLong,
@@ -22,11 +25,11 @@ pub enum Refusal {
     ListingTooLong,
 }
 
-impl Refusal {
-    pub fn number(&self) -> u8
-        ensures { result ≡ number_of self.now }
-    {
-        match *self {
+impl From<Refusal> for u8 {
+    ghost from_gives = { λ refusal number. number ≡ number_of refusal };
+
+    fn from(refusal: Refusal) -> u8 {
+        match refusal {
             Refusal::TooLong => 1,
             Refusal::NotUtf8 => 2,
             Refusal::AfterEof => 3,
@@ -39,3 +42,21 @@ impl Refusal {
         }
     }
 }
+
+impl fmt::Display for Refusal {
+    fn fmt<W: fmt::Write>(&self, f: &mut fmt::Formatter<W>) -> fmt::Result {
+        match self {
+            Refusal::TooLong => f.write_str("the text is longer than the limit"),
+            Refusal::NotUtf8 => f.write_str("the text is not UTF-8"),
+            Refusal::AfterEof => f.write_str("nothing follows the end of the text"),
+            Refusal::NoToken(place) => write!(f, "no token stands at {place}"),
+            Refusal::CommentsFull => f.write_str("the table of comments is full"),
+            Refusal::SpacesFull => f.write_str("the table of irregular white space is full"),
+            Refusal::TokensFull => f.write_str("the table of tokens is full"),
+            Refusal::BadComment => f.write_str("the comment does not lie in the text"),
+            Refusal::ListingTooLong => f.write_str("the buffer is too short for the listing"),
+        }
+    }
+}
+
+impl Error for Refusal {}
