@@ -4,21 +4,24 @@ ghost use Rattle.comments.specs.Rows.{kind_number, position_number, content_numb
 
 use table::Row;
 
-#[derive(Clone, Copy)]
+#[derive(Clone, Copy, Debug, Default, PartialEq, Eq)]
 pub enum CommentKind {
+    #[default]
     Line,
     SingleLineBlock,
     MultiLineBlock,
 }
 
-#[derive(Clone, Copy)]
+#[derive(Clone, Copy, Debug, Default, PartialEq, Eq)]
 pub enum CommentPosition {
+    #[default]
     Leading,
     Trailing,
 }
 
-#[derive(Clone, Copy)]
+#[derive(Clone, Copy, Debug, Default, PartialEq, Eq)]
 pub enum CommentContent {
+    #[default]
     None,
     Legal,
     Jsdoc,
@@ -35,7 +38,7 @@ pub enum CommentContent {
     CoverageIgnoreFile,
 }
 
-#[derive(Clone, Copy)]
+#[derive(Clone, Copy, Debug, Default, PartialEq, Eq)]
 pub struct Comment {
     pub start: u32,
     pub end: u32,
@@ -55,14 +58,16 @@ impl Row for Comment {
     }
 }
 
-impl CommentKind {
-    // The kind's number, 0 to 2.
-    pub fn number(self) -> u8
-        ensures { result ≡ kind_number self }
-    {
-        self as u8
-    }
+// The kind's number, 0 to 2.
+impl From<CommentKind> for u8 {
+    ghost from_gives = { λ kind number. number ≡ kind_number kind };
 
+    fn from(kind: CommentKind) -> u8 {
+        kind as u8
+    }
+}
+
+impl CommentKind {
     pub fn is_line(self) -> bool
         ensures { result ≡ line_kind self }
     {
@@ -79,23 +84,25 @@ impl CommentKind {
     }
 }
 
-impl CommentPosition {
-    // The position's number, 0 or 1.
-    pub fn number(self) -> u8
-        ensures { result ≡ position_number self }
-    {
-        self as u8
+// The position's number, 0 or 1.
+impl From<CommentPosition> for u8 {
+    ghost from_gives = { λ position number. number ≡ position_number position };
+
+    fn from(position: CommentPosition) -> u8 {
+        position as u8
+    }
+}
+
+// The class's number, 0 to 13.
+impl From<CommentContent> for u8 {
+    ghost from_gives = { λ content number. number ≡ content_number content };
+
+    fn from(content: CommentContent) -> u8 {
+        content as u8
     }
 }
 
 impl CommentContent {
-    // The class's number, 0 to 13.
-    pub fn number(self) -> u8
-        ensures { result ≡ content_number self }
-    {
-        self as u8
-    }
-
     // Whether a comment of this class stays with what follows it. Legal comments are kept before the statement that they stand
     // before, and annotations speak of the next token, so by itself neither goes back to the token before.
     pub fn should_stay_leading(self) -> bool
