@@ -1,3 +1,2 @@
-mod Last
-mod Halving
 mod Rise
+mod Search

@@ -1,7 +1,8 @@
 -- Appending to rows that are kept in the order of where they start.
-use Rattle.std.specs.Prelude.{◌≡◌, ℕ, ◌+◌, ◌-◌, ◌<◌, ◌≤◌, Bool, true, cond, List, map, length, take, Some, None, Option, ◌==◌, ◌≢◌, nat_lt, slice_index, slice_set}
+use Rattle.std.specs.Prelude.{◌≡◌, ℕ, ◌+◌, ◌-◌, ◌<◌, Bool, true, cond, List, map, length, take, Some, None, Ok, Err, Option, Result, ◌==◌, ◌≢◌, nat_lt, slice_index, slice_set}
 use Rattle.table.specs.declared.Appended.{Appended}
-use Rattle.table.specs.declared.Appended.TheVariants.{Added, Dropped, Full}
+use Rattle.table.specs.declared.Appended.TheVariants.{Added, Dropped}
+use Rattle.table.specs.declared.Full.{Full}
 
 -- where the rows on record start
 abbrev pub starts : {R : Type 0} → (R → ℕ) → List R → ℕ → List ℕ
@@ -19,25 +20,21 @@ follows ss start = cond (length ss == 0) true (nat_lt (slice_index ss (length ss
 abbrev pub Rising : List ℕ → Type 0
 Rising ss = (i j : ℕ) → i < j → j < length ss → slice_index ss i < slice_index ss j
 
--- in rising starts, those below `low` are below the place, and those from `high` on are not
-abbrev pub Parted : List ℕ → ℕ → ℕ → ℕ → Type 0
-Parted ss place low high = Rising ss → ((k : ℕ) → k < low → slice_index ss k < place) × ((k : ℕ) → high ≤ k → k < length ss → place ≤ slice_index ss k)
-
 -- the index that was found has that start; where none was found in rising starts, none has
 abbrev pub Found : List ℕ → ℕ → Option ℕ → Type 0
 Found ss start None = Rising ss → (k : ℕ) → k < length ss → slice_index ss k ≢ start
 Found ss start (Some i) = (i < length ss) × (slice_index ss i ≡ start)
 
 -- a row that does not follow is dropped; one that does is added where there is room
-abbrev pub outcome : {R : Type 0} → (R → ℕ) → List R → ℕ → R → Appended
-outcome at rows count row = cond (follows (starts at rows count) (at row)) (cond (nat_lt count (length rows)) Added Full) Dropped
+abbrev pub outcome : {R : Type 0} → (R → ℕ) → List R → ℕ → R → Result Appended Full
+outcome at rows count row = cond (follows (starts at rows count) (at row)) (cond (nat_lt count (length rows)) (Ok Added) (Err (record {}))) (Ok Dropped)
 
-abbrev pub rows_with : {R : Type 0} → Appended → List R → ℕ → R → List R
-rows_with Added rows count row = slice_set rows count row
-rows_with Dropped rows count row = rows
-rows_with Full rows count row = rows
+abbrev pub rows_with : {R : Type 0} → Result Appended Full → List R → ℕ → R → List R
+rows_with (Ok Added) rows count row = slice_set rows count row
+rows_with (Ok Dropped) rows count row = rows
+rows_with (Err full) rows count row = rows
 
-abbrev pub count_with : Appended → ℕ → ℕ
-count_with Added count = count + 1
-count_with Dropped count = count
-count_with Full count = count
+abbrev pub count_with : Result Appended Full → ℕ → ℕ
+count_with (Ok Added) count = count + 1
+count_with (Ok Dropped) count = count
+count_with (Err full) count = count
