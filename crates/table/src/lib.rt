@@ -1,6 +1,6 @@
 #![tactic(auto)]
 // Rows kept in the order of where they start, in a slice of the caller's that is filled up to a count.
-ghost use Rattle.std.specs.Prelude.{◌≡◌, ℕ, ◌+◌, ◌-◌, ◌^◌, ◌<◌, ◌≤◌, length, IfSome, slice_index_or};
+ghost use Rattle.std.specs.Prelude.{◌≡◌, ℕ, ◌+◌, ◌-◌, ◌^◌, ◌<◌, ◌≤◌, length, IfSome, Some, codes, slice_index_or};
 ghost use Rattle.table.specs.Order.{last_start, follows, outcome, rows_with, count_with, Rising, Found};
 ghost use Rattle.table.specs.View.{rows_of, count_of, kept_of, starts_of};
 
@@ -28,6 +28,8 @@ pub enum Appended {
 pub struct Full;
 
 impl fmt::Display for Full {
+    ghost output = { λ _. Some (codes "no room for another row") };
+
     fn fmt<W: fmt::Write>(&self, f: &mut fmt::Formatter<W>) -> fmt::Result {
         f.write_str("no room for another row")
     }
