@@ -1,10 +1,15 @@
 // The kinds of tokens, numbered in the order in which they stand here, and what the builder asks of a kind.
-ghost use Rattle.std.specs.Prelude.{◌≡◌, ◌<◌, IfSome, Some, Decides, ◌==◌};
-ghost use Rattle.kinds.specs.declared.kind.Kind.{Kind};
-ghost use Rattle.kinds.specs.Kinds.{number_of, kind_of, can_end_expression, continues_previous_expression, keeps_line_comment_leading};
+ghost use Rattle.std.specs.Prelude.{◌≡◌};
+ghost use Rattle.kinds.specs.Kinds.{can_end_expression, continues_previous_expression, keeps_line_comment_leading};
+ghost use Rattle.kinds.specs.Conversions.{GivesNumber, GivesKind};
 
-#[derive(Clone, Copy, Debug)]
+use std::error::Error;
+use std::fmt;
+
+// `==` compares the numbers (specs/Equality.antt).
+#[derive(Clone, Copy, Debug, PartialEq, Eq, Default)]
 pub enum Kind {
+    #[default]
     Eof,
     Undetermined,
     Skip,
@@ -397,53 +402,59 @@ const KEEPS_LINE_COMMENT_LEADING: [bool; 169] = [
 ];
 
 impl Kind {
-    // The kind's number, 0 to 168.
-    pub fn number(self) -> u8
-        ensures value { result ≡ number_of self }
-        ensures bound { result < 169 }
-    {
-        self as u8
-    }
-
-    // The kind that has the number, if one does.
-    pub fn from_number(number: u8) -> Option<Kind>
-        ensures value { result ≡ kind_of number }
-        ensures has { IfSome result (λ k. number_of k ≡ number) }
-        ensures every { (k : Kind) → number_of k ≡ number → result ≡ Some k }
-    {
-        let number = number as usize;
-        if number < KINDS.len() {
-            Some(KINDS[number])
-        } else {
-            None
-        }
-    }
-
-    pub fn is(self, other: Kind) -> bool
-        ensures value { result ≡ (number_of self == number_of other) }
-        ensures same { Decides result (self ≡ other) }
-    {
-        self.number() == other.number()
-    }
-
     // Whether a token of this kind can be the completed left-hand side of an infix or suffix boundary.
     pub fn can_end_expression(self) -> bool
         ensures { result ≡ can_end_expression self }
     {
-        CAN_END_EXPRESSION[self.number() as usize]
+        CAN_END_EXPRESSION[self as usize]
     }
 
     // Whether a token of this kind goes on with the expression before it.
     pub fn continues_previous_expression(self) -> bool
         ensures { result ≡ continues_previous_expression self }
     {
-        CONTINUES_PREVIOUS_EXPRESSION[self.number() as usize]
+        CONTINUES_PREVIOUS_EXPRESSION[self as usize]
     }
 
     // Whether a line comment right after a token of this kind stays with the token that follows.
     pub fn keeps_line_comment_leading(self) -> bool
         ensures { result ≡ keeps_line_comment_leading self }
     {
-        KEEPS_LINE_COMMENT_LEADING[self.number() as usize]
+        KEEPS_LINE_COMMENT_LEADING[self as usize]
     }
 }
+
+// The kind's number, 0 to 168.
+impl From<Kind> for u8 {
+    ghost from_gives = { GivesNumber };
+
+    fn from(kind: Kind) -> u8 {
+        kind as u8
+    }
+}
+
+// A number that no kind has.
+#[derive(Clone, Copy, Debug, PartialEq, Eq)]
+pub struct UnknownKind(pub u8);
+
+// The kind that has the number, if one does.
+impl TryFrom<u8> for Kind {
+    type Error = UnknownKind;
+
+    ghost try_from_gives = { GivesKind };
+
+    fn try_from(number: u8) -> Result<Kind, UnknownKind> {
+        KINDS
+            .get(number as usize)
+            .copied()
+            .ok_or(UnknownKind(number))
+    }
+}
+
+impl fmt::Display for UnknownKind {
+    fn fmt<W: fmt::Write>(&self, f: &mut fmt::Formatter<W>) -> fmt::Result {
+        write!(f, "no kind has number {}", self.0)
+    }
+}
+
+impl Error for UnknownKind {}

@@ -1,7 +1,7 @@
 // A token: its kind, where it starts and ends, and whether a line terminator stands before it.
 use crate::kind::Kind;
 
-#[derive(Clone, Copy)]
+#[derive(Clone, Copy, Debug, PartialEq, Eq, Default)]
 pub struct Token {
     pub kind: Kind,
     pub start: u32,

@@ -5,4 +5,4 @@ use Rattle.kinds.proofs.kind.Kind.can_end_expression.Goals as goal
 
 pub returns : goal.returns
 unfolding can_end_expression
-returns c = tabled expression_ends c.args.self c.number.result c.number.ensures.value c.number.ensures.bound
+returns c = tabled expression_ends c.args.self

@@ -5,4 +5,4 @@ use Rattle.kinds.proofs.kind.Kind.continues_previous_expression.Goals as goal
 
 pub returns : goal.returns
 unfolding continues_previous_expression
-returns c = tabled infix_operators c.args.self c.number.result c.number.ensures.value c.number.ensures.bound
+returns c = tabled infix_operators c.args.self

@@ -5,4 +5,4 @@ use Rattle.kinds.proofs.kind.Kind.keeps_line_comment_leading.Goals as goal
 
 pub returns : goal.returns
 unfolding keeps_line_comment_leading
-returns c = tabled line_comment_leads c.args.self c.number.result c.number.ensures.value c.number.ensures.bound
+returns c = tabled line_comment_leads c.args.self
