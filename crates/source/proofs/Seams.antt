@@ -1,9 +1,9 @@
 -- A text may be cut just where a place lies between its characters.
-use Rattle.std.proofs.Common.{◌≡◌, ℕ, Bool, true, false, List, [], ◌∷◌, ◌++◌, length, take, IsUtf8, Decides, MatchBool, sym, refl, ap, ◌∙◌, subst}
+use Rattle.std.proofs.Common.{◌≡◌, ℕ, true, List, [], ◌∷◌, ◌++◌, length, take, IsUtf8, sym, refl, ap, ◌∙◌, subst}
 use lib.Utf8.{encodes, scalar, scalars}
 use Rattle.std.specs.Str.{IsCharBoundary}
 use Rattle.std.proofs.lemmas.List.{length-take-le, take-append-drop}
-use Rattle.std.proofs.lemmas.Bool.{and_from, and_parts, false≢true}
+use Rattle.std.proofs.lemmas.Bool.{and_from, and_parts}
 use Rattle.std.proofs.lemmas.Str.{IsCharBoundary-at_seam, IsUtf8-take, IsUtf8-drop}
 use Rattle.source.specs.Characters.{BetweenCharacters}
 
@@ -30,8 +30,3 @@ between_from text place u cut =
 pub boundary_from : (text : List ℕ) (place : ℕ) → BetweenCharacters text place → IsCharBoundary text place
 boundary_from text place h =
     subst (IsCharBoundary text) h.reached (IsCharBoundary-at_seam text (encodes h.before) (encodes h.after) (sym h.spells) (h.after, (second_valid h.before h.after h.valid, refl)))
-
--- a test that says what is so
-pub decided : {P : Type 0} (r : Bool) → MatchBool r P (P → ⊥) → Decides r P
-decided true h = (λ _. h, λ _. refl)
-decided false h = (λ e. absurd (false≢true e), λ p. absurd (h p))

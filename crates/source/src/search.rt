@@ -1,6 +1,6 @@
 // Byte-match tables of 256 entries, and the one search over them.
 ghost use Rattle.std.specs.Prelude.{◌≡◌, ℕ, ◌+◌, ◌<◌, ◌≤◌, true, false, map, length, drop, slice_index};
-ghost use Rattle.std.specs.List.{range_with_len, prefix_len};
+ghost use Rattle.std.specs.List.{range_with_len, prefix_len, position};
 ghost use Rattle.source.specs.Search.{begins_line_break, begins_multiline_stop, ends_regular_whitespace, hits, misses};
 
 // Which bytes a search stops at, one entry for each byte.
@@ -99,6 +99,13 @@ impl SafeByteMatchTable {
     {
         self.0[b as usize]
     }
+
+    // The first place whose byte the table matches.
+    fn first_match(&self, bytes: &[u8]) -> Option<usize>
+        ensures { result ≡ position (hits self.now.0) bytes.now }
+    {
+        bytes.iter().position(|b| self.matches(*b))
+    }
 }
 
 // The first place from `from` on whose byte the table matches, or the end of the text; a place past the end is the answer itself.
@@ -109,12 +116,8 @@ pub fn byte_search(table: &SafeByteMatchTable, text: &[u8], from: usize) -> usiz
     ensures before { (k : ℕ) → from ≤ k → k < result → hits table.now.0 (slice_index text.now k) ≡ false }
     ensures found { result < length text.now → hits table.now.0 (slice_index text.now result) ≡ true }
 {
-    let mut i = from;
-    while i < text.len() {
-        if table.matches(text[i]) {
-            return i;
-        }
-        i += 1;
-    }
-    i
+    let Some(rest) = text.get(from..) else {
+        return from;
+    };
+    from + table.first_match(rest).unwrap_or(rest.len())
 }

@@ -11,8 +11,8 @@ use crate::unicode::char_at;
 impl<'a> Source<'a> {
     // The text at its start; one that is too long is replaced by the empty text.
     pub fn new(text: &'a str) -> Self
-        ensures fits { length text.now ≤ 4294967039 → result.text ≡ text.entry }
-        ensures long { 4294967039 < length text.now → text_of result ≡ [] }
+        ensures fits { length text.now ≤ MAX_LEN → result.text ≡ text.entry }
+        ensures long { MAX_LEN < length text.now → text_of result ≡ [] }
         ensures place { place_of result ≡ 0 }
     {
         if text.len() > MAX_LEN {
@@ -30,7 +30,7 @@ impl<'a> Source<'a> {
     pub fn offset_usize(&self) -> usize
         ensures value { result ≡ place_of self.now }
         ensures cut { IsCharBoundary (text_of self.now) result }
-        ensures short { length (text_of self.now) ≤ 4294967039 }
+        ensures short { length (text_of self.now) ≤ MAX_LEN }
         ensures utf8 { IsUtf8 (text_of self.now) }
     {
         self.place
@@ -52,6 +52,7 @@ impl<'a> Source<'a> {
     pub fn peek_char(&self) -> Option<char>
         ensures value { result ≡ char_at (text_of self.now) (place_of self.now) }
         ensures spelt { Spelt (text_of self.now) (place_of self.now) result }
+        ensures utf8 { IsUtf8 (text_of self.now) }
     {
         char_at(self.text, self.place)
     }
@@ -64,7 +65,7 @@ impl<'a> Source<'a> {
         self.text.is_char_boundary(place)
     }
 
-    // Moves to another place, if that lies between characters.
+    // Moves to another place, if that lies between characters. A `bool` as of `HashSet::insert`: there is no error to pass on.
     pub fn set_position(&mut self, place: usize) -> bool
         ensures text { self.new.text ≡ self.old.text }
         ensures place { MatchBool result (IsCharBoundary (text_of self.old) place × (place_of self.new ≡ place)) ((IsCharBoundary (text_of self.old) place → ⊥) × (place_of self.new ≡ place_of self.old)) }
