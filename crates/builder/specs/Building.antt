@@ -1,9 +1,10 @@
 -- What each event makes of the builder and its rows.
 use Rattle.std.specs.Prelude.{◌≡◌, ℕ, ◌+◌, ◌<◌, Bool, true, false, cond, not, ◌&&◌, ◌⊎◌, List, map, length, take, Some, None, Ok, Err, Option, Result, ◌==◌, nat_lt, slice_index_or, slice_set}
 use Rattle.refusals.specs.declared.Refusal.{Refusal}
-use Rattle.refusals.specs.declared.Refusal.TheVariants.{CommentsFull, SpacesFull, BadComment}
+use Rattle.refusals.specs.declared.Refusal.TheVariants.{CommentsFull, BadComment}
 use Rattle.table.specs.declared.Appended.{Appended}
-use Rattle.table.specs.declared.Appended.TheVariants.{Added, Dropped, Full}
+use Rattle.table.specs.declared.Appended.TheVariants.{Added, Dropped}
+use Rattle.table.specs.declared.Full.{Full}
 use Rattle.table.specs.Order.{Rising, outcome}
 use Rattle.kinds.specs.declared.kind.Kind.{Kind}
 use Rattle.kinds.specs.declared.kind.Kind.TheVariants.{Undetermined}
@@ -29,7 +30,7 @@ use Rattle.builder.specs.declared.rows.Attachment.TheVariants.{ToPrevious, ToEit
 use Rattle.builder.specs.declared.state.TriviaBuilder.{TriviaBuilder}
 use Rattle.builder.specs.declared.span.Span.{Span}
 use Rattle.builder.specs.Content.{Fits, content_bytes}
-use Rattle.builder.specs.Events.{effect_of}
+use Rattle.builder.specs.Events.{effect_of, event_of}
 use Rattle.builder.specs.Rows.{over, attached_row, last_followed, last_stays, no_comment}
 
 abbrev pub Range : Type 0
@@ -47,25 +48,6 @@ goes_back previous next =
 
 abbrev pub token_attachment : Token → Token → Attachment
 token_attachment previous token = cond (goes_back previous.kind token.kind) (ToEither previous.end token.start) (ToNext token.start)
-
--- the end of a line: all waiting rows go to the token before, unless the last of them stays leading
-abbrev pub ended_rows : List Comment → ℕ → ℕ → ℕ → List Comment
-ended_rows rows processed count end = cond (last_stays rows count) rows (over (attached_row (ToPrevious end)) processed count rows)
-
-abbrev pub ended_to : List Comment → ℕ → ℕ → ℕ
-ended_to rows processed count = cond (last_stays rows count) processed count
-
-abbrev pub newline_rows : Attach → List Comment → ℕ → ℕ → ℕ → List Comment
-newline_rows Wait rows processed count end = rows
-newline_rows ToToken rows processed count end = rows
-newline_rows MarkLast rows processed count end = last_followed rows count
-newline_rows EndLine rows processed count end = ended_rows (last_followed rows count) processed count end
-
-abbrev pub newline_processed : Attach → List Comment → ℕ → ℕ → ℕ
-newline_processed Wait rows processed count = processed
-newline_processed ToToken rows processed count = processed
-newline_processed MarkLast rows processed count = processed
-newline_processed EndLine rows processed count = ended_to (last_followed rows count) processed count
 
 -- the builder with all rows of its table and how many are on record
 pub record State : Type 0 where
@@ -88,44 +70,50 @@ pending s = nat_lt s.builder.processed (recorded s)
 abbrev pub effect_at : State → Event → Effect
 effect_at s event = effect_of s.builder.saw_newline s.builder.saw_newline_for_comment (pending s) event
 
--- the builder with other flags, rows attached and token before
-abbrev pub moved : TriviaBuilder → Bool → Bool → ℕ → Token → TriviaBuilder
-moved b n m processed previous =
-    record { processed = processed; saw_newline = n; saw_newline_for_comment = m; previous_token = previous; pure_comments = b.pure_comments; no_side_effects_comments = b.no_side_effects_comments }
+-- the builder with the flags that an effect gives
+abbrev pub with_flags : Effect → TriviaBuilder → TriviaBuilder
+with_flags e b = record b { saw_newline = e.saw_newline; saw_newline_for_comment = e.saw_newline_for_comment }
+
+abbrev pub flagged : Effect → State → State
+flagged e s = record s { builder = with_flags e s.builder }
+
+-- all waiting rows are attached
+abbrev pub attached : Attachment → State → State
+attached how s = record s { builder = record s.builder { processed = recorded s }; rows = over (attached_row how) s.builder.processed (recorded s) s.rows }
+
+-- the last row is followed by a line break
+abbrev pub marked : State → State
+marked s = record s { rows = last_followed s.rows (recorded s) }
+
+-- the end of a line: all waiting rows go to the token before, unless the last of them stays leading
+abbrev pub ended : State → State
+ended s = cond (last_stays (take s.count s.rows)) s (attached (ToPrevious s.builder.previous_token.end) s)
+
+-- what a line break does with the rows
+abbrev pub newline_rows : Attach → State → State
+newline_rows Wait s = s
+newline_rows ToToken s = s
+newline_rows MarkLast s = marked s
+newline_rows EndLine s = ended (marked s)
 
 -- a line break
-abbrev pub newline_by : Effect → State → State
-newline_by e s = record {
-  builder = moved s.builder e.saw_newline e.saw_newline_for_comment (newline_processed e.attach s.rows s.builder.processed (recorded s)) s.builder.previous_token;
-  rows = newline_rows e.attach s.rows s.builder.processed (recorded s) s.builder.previous_token.end;
-  count = s.count;
-}
-
 abbrev pub newline_to : State → State
-newline_to s = newline_by (effect_at s Newline) s
+newline_to s = newline_rows (effect_at s Newline).attach (flagged (effect_at s Newline) s)
 
-abbrev pub token_rows : Attach → List Comment → ℕ → ℕ → Attachment → List Comment
-token_rows Wait rows processed count how = rows
-token_rows MarkLast rows processed count how = rows
-token_rows EndLine rows processed count how = rows
-token_rows ToToken rows processed count how = over (attached_row how) processed count rows
+-- what a token does with the rows
+abbrev pub token_rows : Attach → Attachment → State → State
+token_rows Wait how s = s
+token_rows MarkLast how s = s
+token_rows EndLine how s = s
+token_rows ToToken how s = attached how s
 
-abbrev pub token_processed : Attach → ℕ → ℕ → ℕ
-token_processed Wait processed count = processed
-token_processed MarkLast processed count = processed
-token_processed EndLine processed count = processed
-token_processed ToToken processed count = count
+-- a token is the token before
+abbrev pub passed : Token → State → State
+passed token s = record s { builder = record s.builder { previous_token = token } }
 
 -- a token
-abbrev pub token_by : Effect → State → Token → State
-token_by e s token = record {
-  builder = moved s.builder e.saw_newline e.saw_newline_for_comment (token_processed e.attach s.builder.processed (recorded s)) token;
-  rows = token_rows e.attach s.rows s.builder.processed (recorded s) (token_attachment s.builder.previous_token token);
-  count = s.count;
-}
-
 abbrev pub token_to : State → Token → State
-token_to s token = token_by (effect_at s event.Token) s token
+token_to s token = passed token (token_rows (effect_at s event.Token).attach (token_attachment s.builder.previous_token token) (flagged (effect_at s event.Token) s))
 
 -- the token before an opened text
 abbrev pub no_token : Token
@@ -136,24 +124,20 @@ opened = record { processed = 0; saw_newline = true; saw_newline_for_comment = t
 
 -- the builder with other ranges
 abbrev pub with_ranges : TriviaBuilder → Range → Range → TriviaBuilder
-with_ranges b pure none = record { processed = b.processed; saw_newline = b.saw_newline; saw_newline_for_comment = b.saw_newline_for_comment; previous_token = b.previous_token; pure_comments = pure; no_side_effects_comments = none }
+with_ranges b pure none = record b { pure_comments = pure; no_side_effects_comments = none }
 
 abbrev pub block_of : Bool → CommentKind
 block_of multi = cond multi MultiLineBlock SingleLineBlock
 
 -- a remark not yet applied extends its range
 abbrev pub ranged : TriviaBuilder → CommentContent → ℕ → TriviaBuilder
-ranged b content row = record {
-  processed = b.processed;
-  saw_newline = b.saw_newline;
-  saw_newline_for_comment = b.saw_newline_for_comment;
-  previous_token = b.previous_token;
+ranged b content row = record b {
   pure_comments = cond (content_number content == 5) (extended b.pure_comments row) b.pure_comments;
   no_side_effects_comments = cond (content_number content == 7) (extended b.no_side_effects_comments row) b.no_side_effects_comments;
 }
 
-abbrev pub event_of : CommentKind → Event
-event_of kind = cond (line_kind kind) LineComment BlockComment
+abbrev pub remarked : CommentContent → ℕ → State → State
+remarked content row s = record s { builder = ranged s.builder content row }
 
 -- a new comment's row before it is attached
 abbrev pub new_row : TriviaBuilder → ℕ → ℕ → CommentKind → CommentContent → Comment
@@ -167,25 +151,22 @@ ends_line MarkLast previous = false
 ends_line ToToken previous = false
 ends_line EndLine previous = not (keeps_line_comment_leading previous)
 
-abbrev pub line_rows : Bool → List Comment → ℕ → ℕ → ℕ → List Comment
-line_rows ends rows processed count end = cond ends (ended_rows rows processed count end) rows
+-- what a new comment does with the rows
+abbrev pub comment_rows : Bool → State → State
+comment_rows ends s = cond ends (ended s) s
 
-abbrev pub line_processed : Bool → List Comment → ℕ → ℕ → ℕ
-line_processed ends rows processed count = cond ends (ended_to rows processed count) processed
+-- what an event does, where so many rows stood before a new comment's
+abbrev pub effect_before : State → ℕ → Event → Effect
+effect_before s index event = effect_of s.builder.saw_newline s.builder.saw_newline_for_comment (nat_lt s.builder.processed index) event
 
--- the builder and the rows after a new comment was put into the row `index`
-abbrev pub taken_by : Effect → TriviaBuilder → List Comment → ℕ → Comment → TriviaBuilder
-taken_by e b rows index row =
-    ranged (moved b e.saw_newline e.saw_newline_for_comment (line_processed (ends_line e.attach b.previous_token.kind) rows b.processed (index + 1)) b.previous_token) row.content index
+-- a new comment, whose row is the last on record and stands at the index
+abbrev pub taken : State → ℕ → Comment → State
+taken s index row =
+    remarked row.content index (comment_rows (ends_line (effect_before s index (event_of row.kind)).attach s.builder.previous_token.kind) (flagged (effect_before s index (event_of row.kind)) s))
 
-abbrev pub taken_effect : TriviaBuilder → ℕ → Comment → Effect
-taken_effect b index row = effect_of b.saw_newline b.saw_newline_for_comment (nat_lt b.processed index) (event_of row.kind)
-
-abbrev pub taken : TriviaBuilder → List Comment → ℕ → Comment → TriviaBuilder
-taken b rows index row = taken_by (taken_effect b index row) b rows index row
-
-abbrev pub taken_rows : TriviaBuilder → List Comment → ℕ → Comment → List Comment
-taken_rows b rows index row = line_rows (ends_line (taken_effect b index row).attach b.previous_token.kind) rows b.processed (index + 1) b.previous_token.end
+-- a new comment's row is added, and taken in
+abbrev pub added_to : State → Comment → State
+added_to s row = taken (record s { rows = slice_set s.rows s.count row; count = s.count + 1 }) s.count row
 
 -- the comment rows on record are in rising order
 abbrev pub Ordered : List Comment → Type 0
@@ -208,19 +189,17 @@ pub record Again (kept : List Comment) (row : Comment) (b after : TriviaBuilder)
   pub same : (after.processed ≡ b.processed) × (after.saw_newline ≡ b.saw_newline) × (after.saw_newline_for_comment ≡ b.saw_newline_for_comment) × (after.previous_token ≡ b.previous_token)
 
 -- a comment by what came of its row: added, on record already or not wanted, or no room
-abbrev pub Commented : Appended → State → Comment → State → Type 0
-Commented Added s row t =
-    (t.builder ≡ taken s.builder (slice_set s.rows s.count row) s.count row) × (t.rows ≡ taken_rows s.builder (slice_set s.rows s.count row) s.count row) × (t.count ≡ s.count + 1)
-Commented Dropped s row t = Again (take s.count s.rows) row s.builder t.builder × (t.rows ≡ s.rows) × (t.count ≡ s.count)
-Commented Full s row t = t ≡ s
+abbrev pub Commented : Result Appended Full → State → Comment → State → Type 0
+Commented (Ok Added) s row t = t ≡ added_to s row
+Commented (Ok Dropped) s row t = Again (take s.count s.rows) row s.builder t.builder × (t.rows ≡ s.rows) × (t.count ≡ s.count)
+Commented (Err full) s row t = t ≡ s
 
--- what the builder answers to that
-abbrev pub comment_answer : Appended → Result (Unit {0}) Refusal
-comment_answer Added = Ok tt
-comment_answer Dropped = Ok tt
-comment_answer Full = Err CommentsFull
+-- what a call answers by what came of its row: a refusal only where there is no room
+abbrev pub answer_of : Refusal → Result Appended Full → Result (Unit {0}) Refusal
+answer_of refusal (Ok appended) = Ok tt
+answer_of refusal (Err full) = Err refusal
 
-abbrev pub outcome_of : State → Comment → Appended
+abbrev pub outcome_of : State → Comment → Result Appended Full
 outcome_of s row = outcome (λ (c : Comment). c.start) s.rows s.count row
 
 -- the row that a comment is first put on record with
@@ -230,13 +209,8 @@ row_for text b start end kind = new_row b start end kind (class_of (block_kind k
 -- a comment handed to the builder: refused if it does not fit the text, else by what comes of its row
 pub record Handed (text : List ℕ) (s : State) (start end : ℕ) (kind : CommentKind) (answer : Result (Unit {0}) Refusal) (t : State) : Type 0 where
   pub bad : (Fits text start end kind → ⊥) → (answer ≡ Err BadComment) × (t ≡ s)
-  pub good : Fits text start end kind → (answer ≡ comment_answer (outcome_of s (row_for text s.builder start end kind))) × Commented (outcome_of s (row_for text s.builder start end kind)) s (row_for text s.builder start end kind) t
+  pub good : Fits text start end kind → (answer ≡ answer_of CommentsFull (outcome_of s (row_for text s.builder start end kind))) × Commented (outcome_of s (row_for text s.builder start end kind)) s (row_for text s.builder start end kind) t
 
--- what the builder answers to an irregular space
-abbrev pub space_answer : Appended → Result (Unit {0}) Refusal
-space_answer Added = Ok tt
-space_answer Dropped = Ok tt
-space_answer Full = Err SpacesFull
-
-abbrev pub space_outcome : List Span → ℕ → Span → Appended
+-- what comes of an irregular space's row
+abbrev pub space_outcome : List Span → ℕ → Span → Result Appended Full
 space_outcome rows count row = outcome (λ (s : Span). s.start) rows count row

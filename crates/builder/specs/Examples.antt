@@ -1,5 +1,5 @@
 -- Readings with where their comments go, worked out by hand. A letter is an Ident, `=` is Eq, `+` is Plus.
-use Rattle.std.specs.Prelude.{◌≡◌, ℕ, ◌+◌, false, List, [], ◌∷◌, map, take, replicate, slice_set}
+use Rattle.std.specs.Prelude.{◌≡◌, ℕ, false, List, [], ◌∷◌, map, take, replicate}
 use Rattle.kinds.specs.declared.kind.Kind.{Kind}
 use Rattle.kinds.specs.declared.kind.Kind.TheVariants.{Eof, Ident, Eq, Plus}
 use Rattle.comments.specs.declared.comment.Comment.{Comment}
@@ -10,20 +10,13 @@ use Rattle.comments.specs.declared.comment.CommentContent.TheVariants.{None, Leg
 use Rattle.comments.specs.declared.comment.CommentPosition.{CommentPosition}
 use Rattle.comments.specs.declared.comment.CommentPosition.TheVariants.{Leading, Trailing}
 use Rattle.builder.specs.Rows.{no_comment}
-use Rattle.builder.specs.Building.{State, opened, new_row, taken, taken_rows, newline_to, token_to}
+use Rattle.builder.specs.Building.{State, opened, new_row, added_to, newline_to, token_to}
 
 -- what is fed to the builder
 pub data Fed : Type 0 where
   comment : ℕ → ℕ → CommentKind → CommentContent → Fed
   newline : Fed
   token : Kind → ℕ → ℕ → Fed
-
-abbrev added_to : State → Comment → State
-added_to s row = record {
-  builder = taken s.builder (slice_set s.rows s.count row) s.count row;
-  rows = taken_rows s.builder (slice_set s.rows s.count row) s.count row;
-  count = s.count + 1;
-}
 
 abbrev fed_to : State → Fed → State
 fed_to s (comment start end kind content) = added_to s (new_row s.builder start end kind content)

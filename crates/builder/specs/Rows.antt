@@ -1,5 +1,5 @@
 -- How waiting comment rows are attached.
-use Rattle.std.specs.Prelude.{ℕ, zero, suc, ◌-◌, Bool, true, false, cond, not, ◌&&◌, ◌||◌, List, [], ◌∷◌, length, get_or, ◌==◌, nat_le, nat_lt, slice_index_or, slice_set}
+use Rattle.std.specs.Prelude.{ℕ, zero, suc, ◌-◌, Bool, true, false, cond, not, ◌&&◌, List, [], ◌∷◌, length, get_or, ◌==◌, nat_le, slice_index_or, slice_set}
 use Rattle.comments.specs.declared.comment.Comment.{Comment}
 use Rattle.comments.specs.declared.comment.CommentKind.TheVariants.{Line}
 use Rattle.comments.specs.declared.comment.CommentPosition.{CommentPosition}
@@ -11,8 +11,7 @@ use Rattle.builder.specs.declared.rows.Attachment.TheVariants.{ToPrevious, ToEit
 
 -- a row with another position and target
 abbrev pub placed_row : Comment → CommentPosition → ℕ → Comment
-placed_row row position target =
-    record { start = row.start; end = row.end; kind = row.kind; content = row.content; position = position; attached_to = target; preceded_by_newline = row.preceded_by_newline; followed_by_newline = row.followed_by_newline }
+placed_row row position target = record row { position = position; attached_to = target }
 
 -- no line break before it, and its class does not keep it with the next token
 abbrev pub may_go_back : Comment → Bool
@@ -32,8 +31,7 @@ over f (suc from) (suc to) (r ∷ rs) = r ∷ over f from to rs
 
 -- a row with newline-after set
 abbrev pub followed : Comment → Comment
-followed row =
-    record { start = row.start; end = row.end; kind = row.kind; content = row.content; position = row.position; attached_to = row.attached_to; preceded_by_newline = row.preceded_by_newline; followed_by_newline = true }
+followed row = record row { followed_by_newline = true }
 
 -- the row that is read where there is none
 abbrev pub no_comment : Comment
@@ -43,6 +41,6 @@ no_comment = record { start = 0; end = 0; kind = Line; content = None; position 
 abbrev pub last_followed : List Comment → ℕ → List Comment
 last_followed rows count = cond (count == 0) rows (cond (nat_le count (length rows)) (slice_set rows (count - 1) (followed (slice_index_or rows (count - 1) no_comment))) rows)
 
--- the last of the first `count` rows stays leading; where there is none, nothing leaves
-abbrev pub last_stays : List Comment → ℕ → Bool
-last_stays rows count = cond (count == 0 || nat_lt (length rows) count) true (stays_leading (get_or rows (count - 1) no_comment).content)
+-- the last of the rows on record stays leading; where there is none, nothing leaves
+abbrev pub last_stays : List Comment → Bool
+last_stays kept = cond (length kept == 0) true (stays_leading (get_or kept (length kept - 1) no_comment).content)

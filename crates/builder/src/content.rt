@@ -1,15 +1,8 @@
 // The content of a comment: the comment without its opening two bytes and, in a block, its closing two.
 ghost use Rattle.std.specs.Prelude.{◌≡◌, Option};
-ghost use Rattle.builder.specs.Content.{shortest, closing, ContentIs};
+ghost use Rattle.builder.specs.Content.{closing, ContentIs};
 
 use comments::comment::CommentKind;
-
-// The fewest bytes of a comment of this kind.
-fn shortest_of(kind: CommentKind) -> usize
-    ensures { result ≡ shortest kind }
-{
-    if kind.is_line() { 2 } else { 4 }
-}
 
 // How many bytes close a comment of this kind.
 fn closing_of(kind: CommentKind) -> usize
@@ -22,12 +15,13 @@ fn closing_of(kind: CommentKind) -> usize
 pub fn content_of(text: &str, start: usize, end: usize, kind: CommentKind) -> Option<&str>
     ensures { ContentIs text.now start end kind result }
 {
-    if end > text.len() || start > end || end - start < shortest_of(kind) {
+    if end > text.len() {
         return None;
     }
-    let from = start + 2;
-    let to = end - closing_of(kind);
-    if text.is_char_boundary(from) && text.is_char_boundary(to) {
+    let from = start.checked_add(2)?;
+    let to = end.checked_sub(closing_of(kind))?;
+    // `get` does not say that the ends of what it gives lie between characters, so they are asked for first.
+    if from <= to && text.is_char_boundary(from) && text.is_char_boundary(to) {
         Some(&text[from..to])
     } else {
         None

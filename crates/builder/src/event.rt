@@ -1,8 +1,10 @@
 // What an event does, by the builder's two flags and whether comments wait to be attached.
-ghost use Rattle.std.specs.Prelude.{◌≡◌, true, false};
-ghost use Rattle.builder.specs.Events.{becomes, effect_of};
+ghost use Rattle.std.specs.Prelude.{◌≡◌};
+ghost use Rattle.builder.specs.Events.{becomes, effect_of, event_of};
 
-#[derive(Clone, Copy)]
+use comments::comment::CommentKind;
+
+#[derive(Clone, Copy, Debug, PartialEq, Eq)]
 pub enum Event {
     LineComment,
     BlockComment,
@@ -10,8 +12,20 @@ pub enum Event {
     Token,
 }
 
+impl From<CommentKind> for Event {
+    ghost from_gives = { λ kind event. event ≡ event_of kind };
+
+    fn from(kind: CommentKind) -> Self {
+        if kind.is_line() {
+            Event::LineComment
+        } else {
+            Event::BlockComment
+        }
+    }
+}
+
 // What becomes of the rows that are not attached yet.
-#[derive(Clone, Copy)]
+#[derive(Clone, Copy, Debug, PartialEq, Eq)]
 pub enum Attach {
     // They wait on.
     Wait,
@@ -23,32 +37,23 @@ pub enum Attach {
     ToToken,
 }
 
-#[derive(Clone, Copy)]
+#[derive(Clone, Copy, Debug, PartialEq, Eq)]
 pub struct Effect {
     pub saw_newline: bool,
     pub saw_newline_for_comment: bool,
     pub attach: Attach,
 }
 
-// After a line break, or a line comment, which ends with one.
-fn on_new_line(attach: Attach) -> Effect
-    ensures { result ≡ becomes true true attach }
-{
-    Effect {
-        saw_newline: true,
-        saw_newline_for_comment: true,
-        attach,
-    }
-}
-
-// After a token.
-fn on_same_line(attach: Attach) -> Effect
-    ensures { result ≡ becomes false false attach }
-{
-    Effect {
-        saw_newline: false,
-        saw_newline_for_comment: false,
-        attach,
+impl Effect {
+    // Both flags are set after a line break, or a line comment, which ends with one, and neither after a token.
+    fn both(newline: bool, attach: Attach) -> Self
+        ensures { result ≡ becomes newline newline attach }
+    {
+        Effect {
+            saw_newline: newline,
+            saw_newline_for_comment: newline,
+            attach,
+        }
     }
 }
 
@@ -61,17 +66,17 @@ pub fn match_event(
     ensures { result ≡ effect_of saw_newline saw_newline_for_comment pending event }
 {
     match (saw_newline, saw_newline_for_comment, pending, event) {
-        (_, _, false, Event::Newline) => on_new_line(Attach::Wait),
-        (true, _, true, Event::Newline) => on_new_line(Attach::MarkLast),
-        (false, _, true, Event::Newline) => on_new_line(Attach::EndLine),
-        (true, _, _, Event::LineComment) => on_new_line(Attach::Wait),
-        (false, _, _, Event::LineComment) => on_new_line(Attach::EndLine),
+        (_, _, false, Event::Newline) => Effect::both(true, Attach::Wait),
+        (true, _, true, Event::Newline) => Effect::both(true, Attach::MarkLast),
+        (false, _, true, Event::Newline) => Effect::both(true, Attach::EndLine),
+        (true, _, _, Event::LineComment) => Effect::both(true, Attach::Wait),
+        (false, _, _, Event::LineComment) => Effect::both(true, Attach::EndLine),
         (_, _, _, Event::BlockComment) => Effect {
             saw_newline,
             saw_newline_for_comment: false,
             attach: Attach::Wait,
         },
-        (_, _, false, Event::Token) => on_same_line(Attach::Wait),
-        (_, _, true, Event::Token) => on_same_line(Attach::ToToken),
+        (_, _, false, Event::Token) => Effect::both(false, Attach::Wait),
+        (_, _, true, Event::Token) => Effect::both(false, Attach::ToToken),
     }
 }

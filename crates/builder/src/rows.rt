@@ -1,11 +1,13 @@
 // Comment rows changed in place, by index.
-ghost use Rattle.std.specs.Prelude.{◌≡◌, ◌<◌, ◌≤◌, List, length};
-ghost use Rattle.builder.specs.Rows.{may_go_back, placed_row, attached_row, over, last_followed, last_stays};
+ghost use Rattle.std.specs.Prelude.{◌≡◌, ◌≤◌, length};
+ghost use Rattle.table.specs.View.{rows_of, count_of, kept_of};
+ghost use Rattle.builder.specs.Rows.{may_go_back, attached_row, over, last_followed, last_stays};
 
-use comments::comment::{Comment, CommentContent, CommentKind, CommentPosition};
+use comments::comment::{Comment, CommentPosition};
+use table::Table;
 
 // How waiting rows are attached.
-#[derive(Clone, Copy)]
+#[derive(Clone, Copy, Debug, PartialEq, Eq)]
 pub enum Attachment {
     // All to the end of the token before.
     ToPrevious(u32),
@@ -15,45 +17,28 @@ pub enum Attachment {
     ToNext(u32),
 }
 
-// The row that is read where there is none.
-pub(crate) const NO_COMMENT: Comment = Comment {
-    start: 0,
-    end: 0,
-    kind: CommentKind::Line,
-    content: CommentContent::None,
-    position: CommentPosition::Leading,
-    attached_to: 0,
-    preceded_by_newline: false,
-    followed_by_newline: false,
-};
-
 fn may_go_back(row: &Comment) -> bool
     ensures { result ≡ may_go_back row.now }
 {
     !row.preceded_by_newline && !row.content.should_stay_leading()
 }
 
-fn placed(row: Comment, position: CommentPosition, attached_to: u32) -> Comment
-    ensures { result ≡ placed_row row position attached_to }
-{
-    let mut row = row;
-    row.position = position;
-    row.attached_to = attached_to;
-    row
-}
-
-fn attach(row: Comment, how: Attachment) -> Comment
-    ensures { result ≡ attached_row how row }
-{
-    match how {
-        Attachment::ToPrevious(end) => placed(row, CommentPosition::Trailing, end),
-        Attachment::ToNext(start) => placed(row, CommentPosition::Leading, start),
-        Attachment::ToEither(end, start) => {
-            if may_go_back(&row) {
-                placed(row, CommentPosition::Trailing, end)
-            } else {
-                placed(row, CommentPosition::Leading, start)
+impl Attachment {
+    // A row attached in this way.
+    fn attach(self, row: Comment) -> Comment
+        ensures { result ≡ attached_row self row }
+    {
+        let (position, attached_to) = match self {
+            Attachment::ToPrevious(end) => (CommentPosition::Trailing, end),
+            Attachment::ToEither(end, _) if may_go_back(&row) => (CommentPosition::Trailing, end),
+            Attachment::ToEither(_, start) | Attachment::ToNext(start) => {
+                (CommentPosition::Leading, start)
             }
+        };
+        Comment {
+            position,
+            attached_to,
+            ..row
         }
     }
 }
@@ -64,25 +49,25 @@ pub(crate) fn attach_pending_comments(rows: &mut [Comment], from: usize, to: usi
     ensures { rows.new ≡ over (attached_row how) from to rows.old }
 {
     for i in from..to {
-        rows[i] = attach(rows[i], how);
+        rows[i] = how.attach(rows[i]);
     }
 }
 
-// Sets newline-after in the last of the first `count` rows.
-pub(crate) fn set_followed_by_newline(rows: &mut [Comment], count: usize)
-    ensures { rows.new ≡ last_followed rows.old count }
+// Sets newline-after in the last row on record.
+pub(crate) fn set_followed_by_newline(comments: &mut Table<'_, Comment>)
+    ensures rows { rows_of comments.new ≡ last_followed (rows_of comments.old) (length (kept_of comments.old)) }
+    ensures count { count_of comments.new ≡ count_of comments.old }
+    ensures lender { comments.new.rows.ghost_name ≡ comments.old.rows.ghost_name }
 {
-    if count > 0 && count <= rows.len() {
-        rows[count - 1].followed_by_newline = true;
+    if let Some(last) = comments.len().checked_sub(1) {
+        comments.rows[last].followed_by_newline = true;
     }
 }
 
-// Whether the class of the last of the first `count` rows keeps it with the next token.
-pub(crate) fn last_stays_leading(rows: &[Comment], count: usize) -> bool
-    ensures { result ≡ last_stays rows.now count }
+// Whether the class of the last row keeps it with the next token; where there is none, nothing leaves.
+pub(crate) fn last_stays_leading(kept: &[Comment]) -> bool
+    ensures { result ≡ last_stays kept.now }
 {
-    if count == 0 || count > rows.len() {
-        return true;
-    }
-    rows[count - 1].content.should_stay_leading()
+    kept.last()
+        .is_none_or(|last| last.content.should_stay_leading())
 }

@@ -1,7 +1,7 @@
 // The row of an irregular space: from one place to another.
 use table::Row;
 
-#[derive(Clone, Copy)]
+#[derive(Clone, Copy, Debug, Default, PartialEq, Eq)]
 pub struct Span {
     pub start: u32,
     pub end: u32,

@@ -1,13 +1,15 @@
 // The builder's calls.
-ghost use Rattle.std.specs.Prelude.{◌≡◌, ◌+◌, ◌^◌, ◌<◌, ◌≤◌, true, false, cond, length, IfSome, Some, None, Option};
+ghost use Rattle.std.specs.Prelude.{◌≡◌, ◌+◌, ◌^◌, ◌<◌, ◌≤◌, length, IfSome, Some, None, Option, slice_set};
+ghost use Rattle.refusals.specs.declared.Refusal.TheVariants.{SpacesFull};
 ghost use Rattle.table.specs.Order.{rows_with, count_with};
 ghost use Rattle.table.specs.View.{rows_of, count_of, kept_of};
-ghost use Rattle.builder.specs.Building.{extended, goes_back, token_attachment, ended_rows, ended_to, newline_rows, newline_processed, token_rows, token_processed, event_of, ends_line, line_rows, line_processed, new_row, ranged, taken, taken_rows, SpanAt, Again, Commented, comment_answer, outcome_of, Handed, space_answer, space_outcome, state_of, newline_to, token_to, opened, with_ranges, block_of};
+ghost use Rattle.builder.specs.Events.{effect_of};
+ghost use Rattle.builder.specs.Building.{extended, goes_back, token_attachment, with_flags, attached, ended, ends_line, new_row, ranged, taken, SpanAt, Again, Commented, answer_of, outcome_of, Handed, space_outcome, state_of, newline_to, token_to, opened, with_ranges, block_of};
 
 use crate::content::content_of;
-use crate::event::{Attach, Event, match_event};
+use crate::event::{Attach, Effect, Event, match_event};
 use crate::rows::{
-    Attachment, NO_COMMENT, attach_pending_comments, last_stays_leading, set_followed_by_newline,
+    Attachment, attach_pending_comments, last_stays_leading, set_followed_by_newline,
 };
 use crate::span::Span;
 use crate::state::TriviaBuilder;
@@ -16,17 +18,15 @@ use comments::comment::{Comment, CommentContent, CommentKind, CommentPosition};
 use kinds::kind::Kind;
 use kinds::token::Token;
 use refusals::Refusal;
-use table::{Appended, Table};
+use table::{Appended, Full, Row, Table};
 
 // A range with one row more: the first row of it stays, and this row is its last.
 fn extend(range: Option<(usize, usize)>, row: usize) -> Option<(usize, usize)>
-    requires { row < 18446744073709551615 }
+    requires { row < usize.MAX }
     ensures { result ≡ extended range row }
 {
-    match range {
-        Some((first, _)) => Some((first, row + 1)),
-        None => Some((row, row + 1)),
-    }
+    let first = range.map_or(row, |range| range.0);
+    Some((first, row + 1))
 }
 
 // Where waiting rows go when a token comes.
@@ -52,104 +52,11 @@ fn goes_back(previous: Kind, next: Kind) -> bool
     previous.can_end_expression() && next.continues_previous_expression()
 }
 
-// All waiting rows go to the token before, unless the last of them stays leading; the answer is how many are attached then.
-fn end_line(rows: &mut [Comment], processed: usize, count: usize, previous_end: u32) -> usize
-    requires { count ≤ length rows.old }
-    ensures rows { rows.new ≡ ended_rows rows.old processed count previous_end }
-    ensures processed { result ≡ ended_to rows.old processed count }
-{
-    if last_stays_leading(rows, count) {
-        return processed;
-    }
-    attach_pending_comments(rows, processed, count, Attachment::ToPrevious(previous_end));
-    count
-}
-
-fn newline_rows(
-    rows: &mut [Comment],
-    processed: usize,
-    count: usize,
-    attach: Attach,
-    previous_end: u32,
-) -> usize
-    requires { count ≤ length rows.old }
-    ensures rows { rows.new ≡ newline_rows attach rows.old processed count previous_end }
-    ensures processed { result ≡ newline_processed attach rows.old processed count }
-{
-    match attach {
-        Attach::Wait => processed,
-        Attach::ToToken => processed,
-        Attach::MarkLast => {
-            set_followed_by_newline(rows, count);
-            processed
-        }
-        Attach::EndLine => {
-            set_followed_by_newline(rows, count);
-            end_line(rows, processed, count, previous_end)
-        }
-    }
-}
-
-fn token_rows(
-    rows: &mut [Comment],
-    processed: usize,
-    count: usize,
-    attach: Attach,
-    how: Attachment,
-) -> usize
-    requires { count ≤ length rows.old }
-    ensures rows { rows.new ≡ token_rows attach rows.old processed count how }
-    ensures processed { result ≡ token_processed attach processed count }
-{
-    match attach {
-        Attach::Wait => processed,
-        Attach::MarkLast => processed,
-        Attach::EndLine => processed,
-        Attach::ToToken => {
-            attach_pending_comments(rows, processed, count, how);
-            count
-        }
-    }
-}
-
-fn event_of(kind: CommentKind) -> Event
-    ensures { result ≡ event_of kind }
-{
-    if kind.is_line() {
-        Event::LineComment
-    } else {
-        Event::BlockComment
-    }
-}
-
 // Whether a comment ends the line of the token before.
 fn ends_line(attach: Attach, previous: Kind) -> bool
     ensures { result ≡ ends_line attach previous }
 {
-    match attach {
-        Attach::Wait => false,
-        Attach::MarkLast => false,
-        Attach::ToToken => false,
-        Attach::EndLine => !previous.keeps_line_comment_leading(),
-    }
-}
-
-fn line_rows(
-    rows: &mut [Comment],
-    processed: usize,
-    count: usize,
-    ends: bool,
-    previous_end: u32,
-) -> usize
-    requires { count ≤ length rows.old }
-    ensures rows { rows.new ≡ line_rows ends rows.old processed count previous_end }
-    ensures processed { result ≡ line_processed ends rows.old processed count }
-{
-    if ends {
-        end_line(rows, processed, count, previous_end)
-    } else {
-        processed
-    }
+    matches!(attach, Attach::EndLine) && !previous.keeps_line_comment_leading()
 }
 
 // The row on record that has just the span of this one.
@@ -157,37 +64,47 @@ fn same_span(comments: &Table<'_, Comment>, row: &Comment) -> Option<usize>
     ensures span { SpanAt (kept_of comments.now) row.now result }
     ensures fits { IfSome result (λ i. i + 1 < 2 ^ 64) }
 {
-    let Some(index) = comments.find(row.start as usize) else {
-        return None;
-    };
-    if comments.row(index, NO_COMMENT).end == row.end {
-        Some(index)
-    } else {
-        None
-    }
-}
-
-fn block_of(multi: bool) -> CommentKind
-    ensures { result ≡ block_of multi }
-{
-    if multi {
-        CommentKind::MultiLineBlock
-    } else {
-        CommentKind::SingleLineBlock
-    }
-}
-
-fn comment_answer(a: Appended) -> Result<(), Refusal>
-    ensures { result ≡ comment_answer a }
-{
-    match a {
-        Appended::Added => Ok(()),
-        Appended::Dropped => Ok(()),
-        Appended::Full => Err(Refusal::CommentsFull),
-    }
+    let index = comments.find(row.start())?;
+    (comments.kept()[index].end == row.end).then_some(index)
 }
 
 impl TriviaBuilder {
+    // What an event does. The flags are set; what becomes of the rows is left.
+    fn meet(&mut self, pending: bool, event: Event) -> Effect
+        ensures effect { result ≡ effect_of self.old.saw_newline self.old.saw_newline_for_comment pending event }
+        ensures flags { self.new ≡ with_flags result self.old }
+    {
+        let effect = match_event(
+            self.saw_newline,
+            self.saw_newline_for_comment,
+            pending,
+            event,
+        );
+        self.saw_newline = effect.saw_newline;
+        self.saw_newline_for_comment = effect.saw_newline_for_comment;
+        effect
+    }
+
+    // Attaches all waiting rows.
+    fn attach_waiting(&mut self, comments: &mut Table<'_, Comment>, how: Attachment)
+        ensures state { state_of self.new comments.new ≡ attached how (state_of self.old comments.old) }
+        ensures lender { comments.new.rows.ghost_name ≡ comments.old.rows.ghost_name }
+    {
+        let count = comments.len();
+        attach_pending_comments(comments.rows, self.processed, count, how);
+        self.processed = count;
+    }
+
+    // All waiting rows go to the token before, unless the last of them stays leading.
+    fn end_line(&mut self, comments: &mut Table<'_, Comment>)
+        ensures state { state_of self.new comments.new ≡ ended (state_of self.old comments.old) }
+        ensures lender { comments.new.rows.ghost_name ≡ comments.old.rows.ghost_name }
+    {
+        if !last_stays_leading(comments.kept()) {
+            self.attach_waiting(comments, Attachment::ToPrevious(self.previous_token.end));
+        }
+    }
+
     // The row of a new comment, before it is attached.
     fn new_row(&self, start: u32, end: u32, kind: CommentKind, content: CommentContent) -> Comment
         ensures { result ≡ new_row self.now start end kind content }
@@ -206,7 +123,7 @@ impl TriviaBuilder {
 
     // The row of a remark that is not applied yet extends its range.
     fn set_annotation_flags(&mut self, content: CommentContent, index: usize)
-        requires { index < 18446744073709551615 }
+        requires { index < usize.MAX }
         ensures { self.new ≡ ranged self.old content index }
     {
         match content {
@@ -220,28 +137,16 @@ impl TriviaBuilder {
         }
     }
 
-    // What a new comment in the row `index` does.
-    fn take_in(&mut self, rows: &mut [Comment], index: usize, row: Comment)
-        requires { index < length rows.old }
-        ensures builder { self.new ≡ taken self.old rows.old index row }
-        ensures rows { rows.new ≡ taken_rows self.old rows.old index row }
+    // What a new comment does, whose row is the last on record and stands at the index.
+    fn take_in(&mut self, comments: &mut Table<'_, Comment>, index: usize, row: Comment)
+        requires { index < length (rows_of comments.old) }
+        ensures state { state_of self.new comments.new ≡ taken (state_of self.old comments.old) index row }
+        ensures lender { comments.new.rows.ghost_name ≡ comments.old.rows.ghost_name }
     {
-        let effect = match_event(
-            self.saw_newline,
-            self.saw_newline_for_comment,
-            self.processed < index,
-            event_of(row.kind),
-        );
-        let ends = ends_line(effect.attach, self.previous_token.kind);
-        self.processed = line_rows(
-            rows,
-            self.processed,
-            index + 1,
-            ends,
-            self.previous_token.end,
-        );
-        self.saw_newline = effect.saw_newline;
-        self.saw_newline_for_comment = effect.saw_newline_for_comment;
+        let effect = self.meet(self.processed < index, Event::from(row.kind));
+        if ends_line(effect.attach, self.previous_token.kind) {
+            self.end_line(comments);
+        }
         self.set_annotation_flags(row.content, index);
     }
 
@@ -255,23 +160,18 @@ impl TriviaBuilder {
     }
 
     // Puts a comment's row on record.
-    fn insert(&mut self, comments: &mut Table<'_, Comment>, row: Comment) -> Appended
+    fn insert(&mut self, comments: &mut Table<'_, Comment>, row: Comment) -> Result<Appended, Full>
         ensures answer { result ≡ outcome_of (state_of self.old comments.old) row }
         ensures state { Commented result (state_of self.old comments.old) row (state_of self.new comments.new) }
         ensures lender { comments.new.rows.ghost_name ≡ comments.old.rows.ghost_name }
     {
         let index = comments.count;
-        match comments.append(row) {
-            Appended::Added => {
-                self.take_in(comments.rows, index, row);
-                Appended::Added
-            }
-            Appended::Dropped => {
-                self.repeat(comments, row);
-                Appended::Dropped
-            }
-            Appended::Full => Appended::Full,
+        let appended = comments.append(row)?;
+        match appended {
+            Appended::Added => self.take_in(comments, index, row),
+            Appended::Dropped => self.repeat(comments, row),
         }
+        Ok(appended)
     }
 
     // The builder of an opened text.
@@ -322,39 +222,26 @@ impl TriviaBuilder {
         ensures state { state_of self.new comments.new ≡ newline_to (state_of self.old comments.old) }
         ensures lender { comments.new.rows.ghost_name ≡ comments.old.rows.ghost_name }
     {
-        let count = comments.len();
-        let effect = match_event(
-            self.saw_newline,
-            self.saw_newline_for_comment,
-            self.processed < count,
-            Event::Newline,
-        );
-        self.processed = newline_rows(
-            comments.rows,
-            self.processed,
-            count,
-            effect.attach,
-            self.previous_token.end,
-        );
-        self.saw_newline = effect.saw_newline;
-        self.saw_newline_for_comment = effect.saw_newline_for_comment;
+        let effect = self.meet(self.processed < comments.len(), Event::Newline);
+        match effect.attach {
+            Attach::Wait | Attach::ToToken => {}
+            Attach::MarkLast => set_followed_by_newline(comments),
+            Attach::EndLine => {
+                set_followed_by_newline(comments);
+                self.end_line(comments);
+            }
+        }
     }
 
     pub fn handle_token(&mut self, comments: &mut Table<'_, Comment>, token: Token)
         ensures state { state_of self.new comments.new ≡ token_to (state_of self.old comments.old) token }
         ensures lender { comments.new.rows.ghost_name ≡ comments.old.rows.ghost_name }
     {
-        let count = comments.len();
-        let effect = match_event(
-            self.saw_newline,
-            self.saw_newline_for_comment,
-            self.processed < count,
-            Event::Token,
-        );
-        let how = token_attachment(&self.previous_token, &token);
-        self.processed = token_rows(comments.rows, self.processed, count, effect.attach, how);
-        self.saw_newline = effect.saw_newline;
-        self.saw_newline_for_comment = effect.saw_newline_for_comment;
+        let effect = self.meet(self.processed < comments.len(), Event::Token);
+        if matches!(effect.attach, Attach::ToToken) {
+            let how = token_attachment(&self.previous_token, &token);
+            self.attach_waiting(comments, how);
+        }
         self.previous_token = token;
     }
 
@@ -370,11 +257,13 @@ impl TriviaBuilder {
         ensures handed { Handed text.now (state_of self.old comments.old) start end kind result (state_of self.new comments.new) }
         ensures lender { comments.new.rows.ghost_name ≡ comments.old.rows.ghost_name }
     {
-        let Some(content) = content_of(text, start as usize, end as usize, kind) else {
-            return Err(Refusal::BadComment);
-        };
+        let content = content_of(text, start as usize, end as usize, kind).ok_or(
+            Refusal::BadComment,
+        )?;
         let row = self.new_row(start, end, kind, parse_annotation(kind, content));
-        comment_answer(self.insert(comments, row))
+        self.insert(comments, row)
+            .map_err(|_| Refusal::CommentsFull)?;
+        Ok(())
     }
 
     pub fn add_line_comment(
@@ -402,7 +291,12 @@ impl TriviaBuilder {
         ensures handed { Handed text.now (state_of self.old comments.old) start end (block_of multi) result (state_of self.new comments.new) }
         ensures lender { comments.new.rows.ghost_name ≡ comments.old.rows.ghost_name }
     {
-        self.add_comment(comments, text, start, end, block_of(multi))
+        let kind = if multi {
+            CommentKind::MultiLineBlock
+        } else {
+            CommentKind::SingleLineBlock
+        };
+        self.add_comment(comments, text, start, end, kind)
     }
 
     // An irregular space of the text, unless it is on record.
@@ -412,15 +306,14 @@ impl TriviaBuilder {
         start: u32,
         end: u32,
     ) -> Result<(), Refusal>
-        ensures answer { result ≡ space_answer (space_outcome (rows_of spaces.old) (count_of spaces.old) (record { start = start; end = end })) }
+        ensures answer { result ≡ answer_of SpacesFull (space_outcome (rows_of spaces.old) (count_of spaces.old) (record { start = start; end = end })) }
         ensures rows { rows_of spaces.new ≡ rows_with (space_outcome (rows_of spaces.old) (count_of spaces.old) (record { start = start; end = end })) (rows_of spaces.old) (count_of spaces.old) (record { start = start; end = end }) }
         ensures count { count_of spaces.new ≡ count_with (space_outcome (rows_of spaces.old) (count_of spaces.old) (record { start = start; end = end })) (count_of spaces.old) }
         ensures lender { spaces.new.rows.ghost_name ≡ spaces.old.rows.ghost_name }
     {
-        match spaces.append(Span { start, end }) {
-            Appended::Added => Ok(()),
-            Appended::Dropped => Ok(()),
-            Appended::Full => Err(Refusal::SpacesFull),
-        }
+        spaces
+            .append(Span { start, end })
+            .map_err(|_| Refusal::SpacesFull)?;
+        Ok(())
     }
 }
