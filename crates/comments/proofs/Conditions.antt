@@ -1,13 +1,13 @@
 -- Each test of classing decides its condition.
-use Rattle.std.proofs.Common.{◌≡◌, ℕ, ◌≤◌, Bool, true, false, cond, ◌&&◌, ◌||◌, eqb, leb, ◌⊎◌, List, [], ◌∷◌, ◌++◌, length, get_or, drop, codes, Decides, sym, refl, ap, ◌∙◌, subst, ⊎_elim, add-zero, arith}
+use Rattle.std.proofs.Common.{◌≡◌, ℕ, ◌≤◌, Bool, true, false, cond, ◌&&◌, ◌||◌, eqb, leb, ◌⊎◌, List, [], ◌∷◌, ◌++◌, length, get_or, drop, codes, Decides, sym, refl, ap, ◌∙◌, subst, ⊎_elim, arith}
 use Rattle.std.specs.Int.{IsInRange}
 use Rattle.std.specs.Char.{is_whitespace}
 use Rattle.std.specs.List.{AllByRecursion}
-use Rattle.std.proofs.lemmas.List.{get_or-append-add, length-append}
-use Rattle.std.proofs.lemmas.Bool.{true≢false, false≢true, leb-true, le-leb, lt-leb, cases_Bool, cond-true, cond-false, or_cases, or_left, or_right, and_parts, and_from}
-use Rattle.std.proofs.lemmas.Bool.Decides.{nat_tests, Decides-eqb, Decides-and, Decides-or, Decides-at, not_from_Decides}
+use Rattle.std.proofs.lemmas.List.{drop_at}
+use Rattle.std.proofs.lemmas.Bool.{true≢false, false≢true, leb-true, le-leb, cases_Bool, cond-true, cond-false, or_cases, or_left, or_right, and_parts, and_from}
+use Rattle.std.proofs.lemmas.Bool.Decides.{nat_tests, Decides-eqb, Decides-and, Decides-or, Decides-at, Decides-like, same_from_decides, not_from_Decides}
 use Rattle.std.proofs.ByRecursion.{Decides-by_and}
-use Rattle.comments.specs.Classing.{begins, holds, licensed, empty, stars, blank, capital, past, marked, capital_after, directive}
+use Rattle.comments.specs.Classing.{begins, holds, licensed, empty, stars, blank, capital, past, marked, after, capital_after, directive}
 use Rattle.comments.specs.Rules.{First, Past, Begins, BeginsThen, Holds, Licensed, Blank, Capital, WhiteSpace, BlankOrEnd}
 use Rattle.comments.proofs.Searches.{begins_front, front_begins}
 
@@ -74,35 +74,27 @@ decides_first p P each none [] = (λ h. absurd (true≢false (sym h ∙ none)), 
 decides_first p P each none (x ∷ xs) = (λ h. (x, xs, refl, (each x).0 h), λ f. (each x).1 (subst P (cc) f.3))
 
 -- a word, and then a test of what follows it
-decides_then : (word bytes : List ℕ) (t : Bool) (q : List ℕ → Bool) (Q : List ℕ → Type 0) → ((after : List ℕ) → Decides (q after) (Q after)) → ((after : List ℕ) → bytes ≡ word ++ after → t ≡ q after) → Decides (begins word bytes && t) (BeginsThen word Q bytes)
-decides_then word bytes t q Q each is = (
+decides_then : (word bytes : List ℕ) (q : List ℕ → Bool) (Q : List ℕ → Type 0) → ((rest : List ℕ) → Decides (q rest) (Q rest)) → Decides (begins word bytes && q (after word bytes)) (BeginsThen word Q bytes)
+decides_then word bytes q Q each = (
   λ h.
-      let both = and_parts (begins word bytes) t h in
-      let e = begins_front word bytes both.0 in
-      let after = drop (length word) bytes in
-      (after, e, (each after).0 (sym (is after e) ∙ both.1)),
-  λ b. and_from (begins word bytes) t ((decides_begins word bytes).1 (b.0, b.1)) (is b.0 b.1 ∙ (each b.0).1 b.2),
+      let both = and_parts (begins word bytes) (q (after word bytes)) h in
+      (after word bytes, begins_front word bytes both.0, (each (after word bytes)).0 both.1),
+  λ b.
+      let rest : after word bytes ≡ b.0 = ap (after word) b.1 ∙ drop_at word b.0 (length word) refl in
+      and_from (begins word bytes) (q (after word bytes)) ((decides_begins word bytes).1 (b.0, b.1)) (ap q rest ∙ (each b.0).1 b.2),
 )
-
--- what follows a word
-get_or-then : (word bytes after : List ℕ) → bytes ≡ word ++ after → get_or bytes (length word) 0 ≡ get_or after 0 0
-get_or-then word bytes after e = ap (λ (xs : List ℕ). get_or xs (length word) 0) e ∙ ap (λ n. get_or (word ++ after) n 0) (sym (add-zero (length word))) ∙ get_or-append-add word after 0 0
-
-length-then : (word bytes after : List ℕ) → bytes ≡ word ++ after → leb (length bytes) (length word) ≡ empty after
-length-then word bytes [] e = le-leb (length bytes) (length word) (omega (arith, ap length e, length-append word []))
-length-then word bytes (x ∷ after) e = lt-leb (length bytes) (length word) (omega (arith, ap length e, length-append word (x ∷ after)))
 
 pub decides_capital_after : (word bytes : List ℕ) → Decides (capital_after word bytes) (BeginsThen word (First Capital) bytes)
 decides_capital_after word bytes =
-    decides_then word bytes (capital (get_or bytes (length word) 0)) (λ after. capital (get_or after 0 0)) (First Capital)
-    (decides_first capital Capital decides_capital refl)
-    (λ after e. ap capital (get_or-then word bytes after e))
+    decides_then word bytes (λ rest. capital (get_or rest 0 0)) (First Capital) (decides_first capital Capital decides_capital refl)
 
 pub decides_directive : (word bytes : List ℕ) → Decides (directive word bytes) (BeginsThen word BlankOrEnd bytes)
 decides_directive word bytes =
-    decides_then word bytes (leb (length bytes) (length word) || blank (get_or bytes (length word) 0)) (λ after. empty after || blank (get_or after 0 0)) BlankOrEnd
-    (λ after. Decides-or (empty after) (blank (get_or after 0 0)) (decides_empty after) (decides_first blank Blank decides_blank refl after))
-    (λ after e. let l = length-then word bytes after e in let g = get_or-then word bytes after e in cc)
+    decides_then word bytes (λ rest. empty rest || blank (get_or rest 0 0)) BlankOrEnd
+    (λ rest. Decides-or (empty rest) (blank (get_or rest 0 0)) (decides_empty rest) (decides_first blank Blank decides_blank refl rest))
+
+turned : (a b : ℕ) → eqb a b ≡ eqb b a
+turned a b = same_from_decides (eqb a b) (eqb b a) (Decides-eqb a b) (Decides-like (eqb b a) sym sym (Decides-eqb b a))
 
 marked_either : (a b c : Bool) → ((a || b) && c) ≡ ((a && c) || (b && c))
 marked_either true true true = refl
@@ -113,7 +105,7 @@ marked_either false b c = refl
 
 marked_begins : (word bytes : List ℕ) → marked word bytes ≡ (begins (64 ∷ word) bytes || begins (35 ∷ word) bytes)
 marked_begins word [] = refl
-marked_begins word (b ∷ bytes) = marked_either (eqb b 64) (eqb b 35) (begins word bytes)
+marked_begins word (b ∷ bytes) = rw (turned 64 b, turned 35 b) (marked_either (eqb b 64) (eqb b 35) (begins word bytes))
 
 pub decides_marked : (word bytes : List ℕ) → Decides (marked word bytes) (Begins (64 ∷ word) bytes ⊎ Begins (35 ∷ word) bytes)
 decides_marked word bytes =

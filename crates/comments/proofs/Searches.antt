@@ -1,73 +1,61 @@
--- A word at the front of the bytes, and the steps of the searches over them.
-use Rattle.std.proofs.Common.{◌≡◌, ℕ, ◌+◌, ◌<◌, ◌≤◌, Bool, true, false, cond, ◌||◌, eqb, List, [], ◌∷◌, ◌++◌, length, get_or, drop, codes, sym, refl, ap, ◌∙◌}
-use Rattle.std.specs.List.{starts_with}
-use Rattle.std.proofs.lemmas.Slice.Eq.{starts_is}
-use Rattle.std.proofs.lemmas.List.{drop_more, drop_all, at_drop_more, at_drop_all}
-use Rattle.std.proofs.lemmas.Bool.{true≢false, false≢true, eqb-true, eq-eqb, and_parts, and_from, or_right}
-use Rattle.comments.specs.Classing.{begins, holds, license_ahead, licensed, past}
-use Rattle.std.proofs.lemmas.Bool.Decides.{Decides-eqb}
+-- A word at the front of the bytes, what is left past the blanks, and the search for a license word.
+use Rattle.std.proofs.Common.{◌≡◌, ℕ, zero, suc, ◌+◌, Bool, true, false, cond, eqb, ◌&&◌, ◌||◌, List, [], ◌∷◌, ◌++◌, length, get_or, take, drop, codes, Some, None, Option, Bor, MatchOption, sym, refl, ap, ◌∙◌, one-add, arith}
+use Rattle.std.specs.Cmp.Lexicographic.{pointwise}
+use Rattle.std.specs.Char.{is_ascii_whitespace}
+use Rattle.std.specs.Str.{IsTrimAsciiStart}
+use Rattle.std.specs.List.{list_any, prefix_len, range_with_len}
+use Rattle.std.proofs.lemmas.Slice.Eq.{starts_is, strip_prefix_is}
+use Rattle.std.proofs.lemmas.List.{drop_more, at_drop_all}
+use Rattle.std.proofs.lemmas.Bool.Decides.{Decides-eqb, nat_tests}
+use Rattle.std.proofs.lemmas.Str.Ascii.{trim_ascii_start_is}
+use Rattle.comments.specs.Classing.{begins, holds, license_ahead, licensed, blank, past, skip_blanks, after}
 
 pub begins_front : (word bytes : List ℕ) → begins word bytes ≡ true → bytes ≡ word ++ drop (length word) bytes
-begins_front [] bytes h = refl
-begins_front (c ∷ word) [] h = cc
-begins_front (c ∷ word) (b ∷ bytes) h =
-    let both = and_parts (eqb b c) (begins word bytes) h in
-    let here : b ≡ c = eqb-true b c both.0 in
-    let more = begins_front word bytes both.1 in
-    cc
+begins_front word bytes h = (starts_is Decides-eqb bytes word (begins word bytes) refl).0 h
 
 pub front_begins : (word rest : List ℕ) → begins word (word ++ rest) ≡ true
-front_begins [] rest = refl
-front_begins (c ∷ word) rest = and_from (eqb c c) (begins word (word ++ rest)) (eq-eqb c c refl) (front_begins word rest)
+front_begins word rest = (starts_is Decides-eqb (word ++ rest) word (begins word (word ++ rest)) refl).1 rest refl
 
-same_tests : (r s : Bool) → (r ≡ true → s ≡ true) → (s ≡ true → r ≡ true) → r ≡ s
-same_tests true s h k = sym (h refl)
-same_tests false true h k = k refl
-same_tests false false h k = refl
+-- a word that `strip_prefix` takes off, and then a test of what it leaves
+pub begins_then : (word bytes : List ℕ) (q : List ℕ → Bool) (r : Option (Bor (List ℕ))) (t : Bool) {P : Bor (List ℕ) → Type 0} → MatchOption r (pointwise eqb (take (length word) bytes) word ≡ false) (λ x. (pointwise eqb (take (length word) bytes) word ≡ true) × (x.now ≡ after word bytes) × (length x.now + length word ≡ length bytes)) → MatchOption r (t ≡ false) P → ((x : Bor (List ℕ)) → P x → t ≡ q x.now) → t ≡ (begins word bytes && q (after word bytes))
+begins_then word bytes q None t h f each = f ∙ by_test (begins word bytes) refl
+  where
+    by_test : (b : Bool) → begins word bytes ≡ b → false ≡ (b && q (after word bytes))
+    by_test true e = absurd (strip_prefix_is Decides-eqb bytes word None h (after word bytes) (begins_front word bytes e))
+    by_test false e = refl
+begins_then word bytes q (Some x) t h f each =
+    let here : begins word bytes ≡ true = ap (begins word) (strip_prefix_is Decides-eqb bytes word (Some x) h) ∙ front_begins word x.now in
+    each x f ∙ ap q h.1 ∙ rw here refl
 
--- `starts_with` of slices is that test
-pub starts_begins : (word bytes : List ℕ) (r : Bool) → r ≡ starts_with eqb bytes word → r ≡ begins word bytes
-starts_begins word bytes r h =
-    let is = starts_is Decides-eqb bytes word r h in
-    same_tests r (begins word bytes)
-    (λ e. ap (begins word) (is.0 e) ∙ front_begins word (drop (length word) bytes))
-    (λ e. is.1 (drop (length word) bytes) (begins_front word bytes e))
+-- what is left past a front that passes a test, by the front's length in the library's words
+past_prefix : (p q : ℕ → Bool) (xs : List ℕ) → ((x : ℕ) → p x ≡ q x) → drop (prefix_len p xs) xs ≡ past q xs
+past_prefix p q [] same = refl
+past_prefix p q (x ∷ xs) same = by_test (p x) (q x) (same x) (past_prefix p q xs same)
+  where
+    by_test : (s t : Bool) → s ≡ t → drop (prefix_len p xs) xs ≡ past q xs → drop (cond s (1 + prefix_len p xs) 0) (x ∷ xs) ≡ cond t (past q xs) (x ∷ xs)
+    by_test true true h e = rw one-add e
+    by_test true false h e = cc
+    by_test false true h e = cc
+    by_test false false h e = refl
 
--- a search for the first element that fails a test: on, and the end
-pub past_more : (p : ℕ → Bool) (xs : List ℕ) (i : ℕ) → i < length xs → p (get_or xs i 0) ≡ true → past p (drop (i + 1) xs) ≡ past p (drop i xs)
-past_more p xs i lt yes-here =
-    sym (at_drop_more (past p) xs i 0 lt ∙ ap (λ (t : Bool). cond t (past p (drop (i + 1) xs)) (get_or xs i 0 ∷ drop (i + 1) xs)) yes-here)
+-- `trim_ascii_start` skips the blanks
+pub skips_blanks : (bytes rest : List ℕ) → IsTrimAsciiStart bytes rest → rest ≡ skip_blanks bytes
+skips_blanks bytes rest h = trim_ascii_start_is bytes rest h ∙ past_prefix is_ascii_whitespace blank bytes (λ b. grind (arith, nat_tests))
 
-pub past_stop : (p : ℕ → Bool) (xs : List ℕ) (i : ℕ) → i < length xs → p (get_or xs i 0) ≡ false → drop i xs ≡ past p (drop i xs)
-past_stop p xs i lt no-here =
-    drop_more xs i 0 lt ∙ sym (at_drop_more (past p) xs i 0 lt ∙ ap (λ (t : Bool). cond t (past p (drop (i + 1) xs)) (get_or xs i 0 ∷ drop (i + 1) xs)) no-here)
+-- either word here or later is a word here or later
+turned : (a x b y : Bool) → ((a || b) || (x || y)) ≡ ((a || x) || (b || y))
+turned true x b y = refl
+turned false true true y = refl
+turned false true false y = refl
+turned false false b y = refl
 
-pub past_all : (p : ℕ → Bool) (xs : List ℕ) (i : ℕ) → length xs ≤ i → drop i xs ≡ past p (drop i xs)
-past_all p xs i le = drop_all i xs le ∙ sym (at_drop_all (past p) xs i le)
+licensed_from : (b : ℕ) (bytes : List ℕ) → (license_ahead (b ∷ bytes) || licensed bytes) ≡ licensed (b ∷ bytes)
+licensed_from b bytes =
+    turned (begins (codes "@license") (b ∷ bytes)) (holds (codes "@license") bytes) (begins (codes "@preserve") (b ∷ bytes)) (holds (codes "@preserve") bytes)
 
-either_on : (a x b y : Bool) → (a || b) ≡ false → (x || y) ≡ ((a || x) || (b || y))
-either_on true x b y h = absurd (true≢false h)
-either_on false x true y h = absurd (true≢false h)
-either_on false x false y h = refl
-
-either_here : (a x b y : Bool) → (a || b) ≡ true → true ≡ ((a || x) || (b || y))
-either_here true x b y h = refl
-either_here false x true y h = sym (or_right x true refl)
-either_here false x false y h = absurd (false≢true h)
-
--- the search for a license word: on, found, and the end
-pub licensed_more : (xs : List ℕ) (i : ℕ) → i < length xs → license_ahead (drop i xs) ≡ false → licensed (drop (i + 1) xs) ≡ licensed (drop i xs)
-licensed_more xs i lt none =
-    let here = drop_more xs i 0 lt in
-    let rest = drop (i + 1) xs in
-    either_on (begins (codes "@license") (get_or xs i 0 ∷ rest)) (holds (codes "@license") rest) (begins (codes "@preserve") (get_or xs i 0 ∷ rest)) (holds (codes "@preserve") rest)
-    (sym (ap license_ahead here) ∙ none)
-    ∙ sym (ap licensed here)
-
-pub licensed_here : (xs : List ℕ) (i : ℕ) → i < length xs → license_ahead (drop i xs) ≡ true → true ≡ licensed (drop i xs)
-licensed_here xs i lt found =
-    let here = drop_more xs i 0 lt in
-    let rest = drop (i + 1) xs in
-    either_here (begins (codes "@license") (get_or xs i 0 ∷ rest)) (holds (codes "@license") rest) (begins (codes "@preserve") (get_or xs i 0 ∷ rest)) (holds (codes "@preserve") rest)
-    (sym (ap license_ahead here) ∙ found)
-    ∙ sym (ap licensed here)
+-- the search for a license word at each place
+pub searched : (xs : List ℕ) (n i : ℕ) → i + n ≡ length xs → list_any (λ j. license_ahead (drop j xs)) (range_with_len i n) ≡ licensed (drop i xs)
+searched xs zero i e = sym (at_drop_all licensed xs i (omega arith))
+searched xs (suc n) i e =
+    ap (λ (t : Bool). license_ahead (drop i xs) || t) (searched xs n (i + 1) (omega arith))
+    ∙ rw (drop_more xs i 0 (omega arith)) (licensed_from (get_or xs i 0) (drop (i + 1) xs))

@@ -1,16 +1,15 @@
 -- The class of a comment by the bytes of its content, which is the comment without its opening two bytes and, in a block, its closing two.
-use Rattle.std.specs.Prelude.{ℕ, Bool, true, false, cond, ◌&&◌, ◌||◌, List, [], ◌∷◌, reverse, length, drop, codes, ◌==◌, nat_le, slice_index}
+use Rattle.std.specs.Prelude.{ℕ, Bool, true, false, cond, ◌&&◌, ◌||◌, List, [], ◌∷◌, reverse, length, drop, codes, ◌==◌, nat_eq, nat_le, slice_index}
 use Rattle.std.proofs.Math.Utf8.{encodes}
 use Rattle.std.specs.Char.{is_whitespace}
+use Rattle.std.specs.List.{list_all, starts_with}
 use Rattle.std.specs.Str.{chars, bytes_eq}
 use Rattle.comments.specs.declared.comment.CommentContent.{CommentContent}
 use Rattle.comments.specs.declared.comment.CommentContent.TheVariants.{None, Legal, Jsdoc, JsdocLegal, PureNotApplied, NoSideEffectsNotApplied, PropertyKey, Webpack, Vite, Turbopack, CoverageIgnore, CoverageIgnoreFile}
 
 -- the word stands at the front of the bytes
 abbrev pub begins : List ℕ → List ℕ → Bool
-begins [] bytes = true
-begins (c ∷ word) [] = false
-begins (c ∷ word) (b ∷ bytes) = b == c && begins word bytes
+begins word bytes = starts_with nat_eq bytes word
 
 -- the word stands anywhere in the bytes
 abbrev pub holds : List ℕ → List ℕ → Bool
@@ -31,8 +30,7 @@ empty (b ∷ bytes) = false
 
 -- each byte is `*`
 abbrev pub stars : List ℕ → Bool
-stars [] = true
-stars (b ∷ bytes) = b == 42 && stars bytes
+stars bytes = list_all (λ b. b == 42) bytes
 
 -- space, tab, line feed, form feed, carriage return
 abbrev pub blank : ℕ → Bool
@@ -77,13 +75,17 @@ marked word bytes = mark (slice_index bytes 0) && begins word (drop 1 bytes)
 abbrev pub key_ahead : List ℕ → Bool
 key_ahead bytes = marked (codes "__KEY__") bytes || nat_le 128 (slice_index bytes 0)
 
+-- what stands past a word at the front of the bytes
+abbrev pub after : List ℕ → List ℕ → List ℕ
+after word bytes = drop (length word) bytes
+
 -- the word, and then an ASCII capital
 abbrev pub capital_after : List ℕ → List ℕ → Bool
-capital_after word bytes = begins word bytes && capital (slice_index bytes (length word))
+capital_after word bytes = begins word bytes && capital (slice_index (after word bytes) 0)
 
 -- the word, and then a blank or the end
 abbrev pub directive : List ℕ → List ℕ → Bool
-directive word bytes = begins word bytes && (nat_le (length bytes) (length word) || blank (slice_index bytes (length word)))
+directive word bytes = begins word bytes && (empty (after word bytes) || blank (slice_index (after word bytes) 0))
 
 abbrev pub coverage_ignore : List ℕ → Bool
 coverage_ignore bytes = begins (codes "v8 ignore") bytes || (begins (codes "c8 ignore") bytes || (begins (codes "node:coverage") bytes || begins (codes "istanbul ignore") bytes))

@@ -1,23 +1,23 @@
 // The class of a comment by its content.
 ghost use Rattle.std.specs.Prelude.{◌≡◌, length};
-ghost use Rattle.comments.specs.Classing.{trimmed, key, property_key, key_ahead, coverage_ignore, coverage_ignore_file, starred, star_class, word_class, rest_class, class_of};
+ghost use Rattle.comments.specs.Classing.{property_key, key_ahead, coverage_ignore, coverage_ignore_file, star_class, word_class, rest_class, class_of};
 ghost use Rattle.comments.specs.Examples.{examples, Classed};
 ghost use Rattle.comments.specs.Rows.{block_kind};
 ghost use Rattle.comments.specs.Rules.{ClassedBy};
 
 use crate::comment::{CommentContent, CommentKind};
 use crate::words::{
-    contains_license_or_preserve_comment, has_capital_after, is_all_stars, is_marked, is_same,
-    skip_blanks, starts_with, starts_with_directive, starts_with_license,
+    contains_license_or_preserve_comment, has_capital_after, is_all_stars, is_marked, skip_blanks,
+    starts_with_directive, starts_with_license,
 };
 
 fn is_coverage_ignore(bytes: &[u8]) -> bool
     ensures { result ≡ coverage_ignore bytes.now }
 {
-    starts_with(bytes, b"v8 ignore")
-        || starts_with(bytes, b"c8 ignore")
-        || starts_with(bytes, b"node:coverage")
-        || starts_with(bytes, b"istanbul ignore")
+    bytes.starts_with(b"v8 ignore")
+        || bytes.starts_with(b"c8 ignore")
+        || bytes.starts_with(b"node:coverage")
+        || bytes.starts_with(b"istanbul ignore")
 }
 
 fn is_coverage_ignore_file(bytes: &[u8]) -> bool
@@ -31,40 +31,26 @@ fn is_coverage_ignore_file(bytes: &[u8]) -> bool
 fn may_be_property_key(rest: &[u8]) -> bool
     ensures { result ≡ key_ahead rest.now }
 {
-    if is_marked(rest, b"__KEY__") {
-        return true;
-    }
-    !rest.is_empty() && rest[0] >= 128
-}
-
-// The text without the white space at both ends.
-fn trim(text: &str) -> &str
-    ensures { result.now ≡ trimmed text.now }
-{
-    text.trim()
-}
-
-fn is_key(word: &[u8]) -> bool
-    ensures { result ≡ key word.now }
-{
-    is_same(word, b"@__KEY__") || is_same(word, b"#__KEY__")
+    is_marked(rest, b"__KEY__") || rest.first().is_some_and(|b| !b.is_ascii())
 }
 
 // Whether the content is just a key between white space.
 fn is_property_key_annotation(content: &str) -> bool
     ensures { result ≡ property_key content.now }
 {
-    is_key(trim(content).as_bytes())
+    let key = content.trim();
+    key == "@__KEY__" || key == "#__KEY__"
 }
 
 // The class that a word at the front of the rest gives, or else a license word anywhere in the content.
+// One `if` for each rule, in the order of the specification, which a table of tests would only say at more length.
 fn word_class(bytes: &[u8], rest: &[u8]) -> CommentContent
     ensures { result ≡ word_class bytes.now rest.now }
 {
-    if is_same(rest, b"@") {
+    if matches!(rest, b"@") {
         return CommentContent::None;
     }
-    if starts_with(rest, b"@vite") {
+    if rest.starts_with(b"@vite") {
         return CommentContent::Vite;
     }
     if starts_with_license(rest) {
@@ -95,6 +81,7 @@ fn word_class(bytes: &[u8], rest: &[u8]) -> CommentContent
 }
 
 // The class that the rest gives, which is what stands past the content's leading blanks.
+#[tactic(auto, unfolding(crate::specs::Classing::rest_class))]
 fn rest_class(content: &str, rest: &[u8]) -> CommentContent
     ensures { result ≡ rest_class content.now rest.now }
 {
@@ -120,13 +107,6 @@ fn star_class(bytes: &[u8]) -> CommentContent
     CommentContent::Jsdoc
 }
 
-// Whether the comment is a block whose content begins with a star.
-fn is_starred(kind: CommentKind, bytes: &[u8]) -> bool
-    ensures { result ≡ starred (block_kind kind) bytes.now }
-{
-    kind.is_block() && starts_with(bytes, b"*")
-}
-
 // The class of a comment by its content, which is the comment without the bytes that open and close it.
 pub fn parse_annotation(kind: CommentKind, content: &str) -> CommentContent
     ensures value { result ≡ class_of (block_kind kind) content.now }
@@ -134,16 +114,12 @@ pub fn parse_annotation(kind: CommentKind, content: &str) -> CommentContent
     ensures only { (class : CommentContent) → ClassedBy (block_kind kind) content.now class → class ≡ result }
 {
     let bytes = content.as_bytes();
-    if bytes.is_empty() {
-        return CommentContent::None;
+    match bytes {
+        [] => CommentContent::None,
+        [b'!', ..] => CommentContent::Legal,
+        [b'*', ..] if kind.is_block() => star_class(bytes),
+        _ => rest_class(content, skip_blanks(bytes)),
     }
-    if starts_with(bytes, b"!") {
-        return CommentContent::Legal;
-    }
-    if is_starred(kind, bytes) {
-        return star_class(bytes);
-    }
-    rest_class(content, skip_blanks(bytes))
 }
 
 // How many examples there are, each of which has its class.

@@ -1,21 +1,13 @@
--- A turn of the search, its find and its end.
-use Rattle.std.proofs.Common.{sym, ap, ◌∙◌, arith}
-use Rattle.std.proofs.lemmas.List.{take_rest, at_drop_all}
-use Rattle.comments.specs.Classing.{license_ahead, licensed}
-use Rattle.comments.proofs.Searches.{licensed_more, licensed_here}
+-- A word at some place is a word anywhere.
+use Rattle.std.proofs.Common.{◌∙◌, drop, length, refl, rules, arith}
+use Rattle.std.proofs.lemmas.Iterator.{YieldsList-from_range}
+use Rattle.std.proofs.lemmas.Iterator.Search.{any_from_yields_List}
+use Rattle.std.proofs.lemmas.List.{take_rest}
+use Rattle.comments.specs.Classing.{license_ahead}
+use Rattle.comments.proofs.Searches.{searched}
 use Rattle.comments.proofs.words.contains_license_or_preserve_comment.Goals as goal
 
-pub returns-then-starts_with_license : goal.returns-then-starts_with_license
-returns-then-starts_with_license c =
-    licensed_here c.args.bytes.now c.loop-i.i (omega arith) (sym (c.if-starts_with_license.ensures ∙ ap license_ahead (take_rest c.args.bytes.now c.loop-i.i)))
-    ∙ c.loop-i.invariant.1
-
-pub loop-i-preserved : goal.loop-i-preserved
-loop-i-preserved c = (
-  omega arith,
-  licensed_more c.args.bytes.now c.loop-i.i (omega arith) (sym (c.if-starts_with_license.ensures ∙ ap license_ahead (take_rest c.args.bytes.now c.loop-i.i)))
-      ∙ c.loop-i.invariant.1,
-)
-
 pub returns : goal.returns
-returns c = sym (at_drop_all licensed c.args.bytes.now c.loop-i.i (omega arith)) ∙ c.loop-i.invariant.1
+returns c =
+    any_from_yields_List (λ i. license_ahead (drop i c.args.bytes.now)) _ _ _ c.any.ensures.ran (YieldsList-from_range 0 (length c.args.bytes.now) (length c.args.bytes.now) refl (omega arith)) (λ x b q k. let e = take_rest c.args.bytes.now x in (search rules, rw (← e) (search rules)))
+    ∙ searched c.args.bytes.now (length c.args.bytes.now) 0 (omega arith)

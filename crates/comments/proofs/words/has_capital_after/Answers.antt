@@ -1,7 +1,8 @@
--- Past the end stands 0, which is no capital.
-use Rattle.std.proofs.Common.{rules}
-use Rattle.std.proofs.lemmas.List.{get_or_past}
+-- The capital stands past the word.
+use Rattle.std.proofs.Common.{get_or, rules}
+use Rattle.comments.specs.Classing.{capital}
+use Rattle.comments.proofs.Searches.{begins_then}
 use Rattle.comments.proofs.words.has_capital_after.Goals as goal
 
-pub returns-then-bytes-word : goal.returns-then-bytes-word
-returns-then-bytes-word c = search (rules, get_or_past)
+pub returns : goal.returns
+returns c = begins_then c.args.word.now c.args.bytes.now (λ rest. capital (get_or rest 0 0)) c.strip_prefix-after.result c.is_some_and.result c.strip_prefix-after.ensures.cases c.is_some_and.ensures (λ x p. search rules)

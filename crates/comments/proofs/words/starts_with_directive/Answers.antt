@@ -1,0 +1,8 @@
+-- The blank or the end stands past the word.
+use Rattle.std.proofs.Common.{◌||◌, get_or, rules}
+use Rattle.comments.specs.Classing.{empty, blank}
+use Rattle.comments.proofs.Searches.{begins_then}
+use Rattle.comments.proofs.words.starts_with_directive.Goals as goal
+
+pub returns : goal.returns
+returns c = begins_then c.args.word.now c.args.bytes.now (λ rest. empty rest || blank (get_or rest 0 0)) c.strip_prefix-after.result c.is_some_and.result c.strip_prefix-after.ensures.cases c.is_some_and.ensures (λ x p. search rules)
