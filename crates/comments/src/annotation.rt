@@ -1,6 +1,6 @@
 // The class of a comment by its content.
 ghost use Rattle.std.specs.Prelude.{◌≡◌, length};
-ghost use Rattle.comments.specs.Classing.{property_key, key_ahead, coverage_ignore, coverage_ignore_file, star_class, word_class, rest_class, class_of};
+ghost use Rattle.comments.specs.Classing.{trimmed, property_key, key_ahead, coverage_ignore, coverage_ignore_file, star_class, word_class, rest_class, class_of};
 ghost use Rattle.comments.specs.Examples.{examples, Classed};
 ghost use Rattle.comments.specs.Rows.{block_kind};
 ghost use Rattle.comments.specs.Rules.{ClassedBy};
@@ -34,11 +34,18 @@ fn may_be_property_key(rest: &[u8]) -> bool
     is_marked(rest, b"__KEY__") || rest.first().is_some_and(|b| !b.is_ascii())
 }
 
+// The text without the white space at both ends.
+fn trim(text: &str) -> &str
+    ensures { result.now ≡ trimmed text.now }
+{
+    text.trim()
+}
+
 // Whether the content is just a key between white space.
 fn is_property_key_annotation(content: &str) -> bool
     ensures { result ≡ property_key content.now }
 {
-    let key = content.trim();
+    let key = trim(content);
     key == "@__KEY__" || key == "#__KEY__"
 }
 
@@ -107,11 +114,10 @@ fn star_class(bytes: &[u8]) -> CommentContent
     CommentContent::Jsdoc
 }
 
-// The class of a comment by its content, which is the comment without the bytes that open and close it.
-pub fn parse_annotation(kind: CommentKind, content: &str) -> CommentContent
-    ensures value { result ≡ class_of (block_kind kind) content.now }
-    ensures rules { ClassedBy (block_kind kind) content.now result }
-    ensures only { (class : CommentContent) → ClassedBy (block_kind kind) content.now class → class ≡ result }
+// The class of the first rule that fits the content.
+#[tactic(auto, unfolding(crate::specs::Classing::class_of))]
+fn first_class(kind: CommentKind, content: &str) -> CommentContent
+    ensures { result ≡ class_of (block_kind kind) content.now }
 {
     let bytes = content.as_bytes();
     match bytes {
@@ -120,6 +126,15 @@ pub fn parse_annotation(kind: CommentKind, content: &str) -> CommentContent
         [b'*', ..] if kind.is_block() => star_class(bytes),
         _ => rest_class(content, skip_blanks(bytes)),
     }
+}
+
+// The class of a comment by its content, which is the comment without the bytes that open and close it.
+pub fn parse_annotation(kind: CommentKind, content: &str) -> CommentContent
+    ensures value { result ≡ class_of (block_kind kind) content.now }
+    ensures rules { ClassedBy (block_kind kind) content.now result }
+    ensures only { (class : CommentContent) → ClassedBy (block_kind kind) content.now class → class ≡ result }
+{
+    first_class(kind, content)
 }
 
 // How many examples there are, each of which has its class.
