@@ -1,3 +1,2 @@
-mod Gaps
 mod Feeds
-mod Chains
+mod Octets

@@ -1,9 +1,9 @@
 -- Gaps and the tokens after them, worked out by hand.
 use Rattle.std.specs.Prelude.{◌≡◌, ℕ, Bool, true, false, List, [], ◌∷◌, map, Some, None, codes, Option}
 use Rattle.kinds.specs.declared.kind.Kind.TheVariants.{Eof, HashbangComment}
+use Rattle.scanner.specs.Gaps.{gap_from, measured}
 use Rattle.tokens.specs.Telling.{Telling}
 use Rattle.reader.specs.declared.token_row.Found.{Found}
-use Rattle.reader.specs.Gap.{gap_at}
 use Rattle.reader.specs.Reading.{found, token_after}
 
 -- a text, a place, whether `#!` opens the text, and the token that is found
@@ -17,11 +17,8 @@ pub record Reading : Type 0 where
 abbrev silent : Telling
 silent text place = None
 
-abbrev new : ℕ → Bool
-new start = true
-
 abbrev comes_to : Reading → Option Found
-comes_to r = token_after r.banged silent r.text (gap_at new new r.text r.place)
+comes_to r = token_after r.banged silent r.text (measured None None (gap_from r.text r.place))
 
 abbrev pub readings : List Reading
 readings =

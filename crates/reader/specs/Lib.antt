@@ -1,7 +1,5 @@
-pub mod Gap
 pub mod Reading
 pub mod Feeding
 pub mod View
 pub mod Examples
 pub mod Worked
-pub mod Chained

@@ -5,12 +5,12 @@ use Rattle.kinds.specs.declared.kind.Kind.{Kind}
 use Rattle.kinds.specs.declared.kind.Kind.TheVariants.{Eof, HashbangComment}
 use Rattle.refusals.specs.declared.Refusal.{Refusal}
 use Rattle.refusals.specs.declared.Refusal.TheVariants as refusal
+use Rattle.scanner.specs.declared.gap.GapMeasure.{GapMeasure}
 use Rattle.scanner.specs.Ends.{line_end}
 use Rattle.tokens.specs.declared.token_reader.Told.{Told}
 use Rattle.tokens.specs.Telling.{Telling}
-use Rattle.reader.specs.declared.Opening.{Opening}
-use Rattle.reader.specs.declared.Opening.TheVariants.{Open, TooLong, NotUtf8}
-use Rattle.reader.specs.declared.gap.Gap.{Gap}
+use Rattle.reader.specs.declared.OpenError.{OpenError}
+use Rattle.reader.specs.declared.OpenError.TheVariants.{TooLong, NotUtf8}
 use Rattle.reader.specs.declared.token_row.Found.{Found}
 
 abbrev pub found : Kind → ℕ → ℕ → Bool → Bool → Found
@@ -21,19 +21,19 @@ found kind start end newline unterminated =
 abbrev pub opens_hashbang : List ℕ → Bool
 opens_hashbang text = slice_index text 0 == 35 && slice_index text 1 == 33
 
-abbrev pub told_at : Gap → Option Told → Option Found
+abbrev pub told_at : GapMeasure → Option Told → Option Found
 told_at g None = None
 told_at g (Some t) = Some (found t.kind g.end t.end g.newline false)
 
 -- the token after a gap: Eof at the end or from an unterminated block on, a hashbang line at the very start, else what is told
-abbrev pub token_after : Bool → Telling → List ℕ → Gap → Option Found
+abbrev pub token_after : Bool → Telling → List ℕ → GapMeasure → Option Found
 token_after banged tell text g =
     cond (g.unterminated || nat_le (length text) g.end) (Some (found Eof g.end (length text) g.newline g.unterminated))
     (cond (banged && (g.end == 0 && opens_hashbang text)) (Some (found HashbangComment g.end (2 + line_end (drop 2 text)) g.newline false))
     (told_at g (tell text g.end)))
 
 -- is there a token, and do the gap's new comments, its new spaces and the token fit; the rooms are in the order of the tables of comments, spaces and tokens
-abbrev pub fitting : Gap → ℕ → ℕ → ℕ → Option Found → Result Found Refusal
+abbrev pub fitting : GapMeasure → ℕ → ℕ → ℕ → Option Found → Result Found Refusal
 fitting g comments spaces tokens None = Err (refusal.NoToken g.end)
 fitting g comments spaces tokens (Some f) =
     cond (nat_lt comments g.comments) (Err refusal.CommentsFull)
@@ -41,16 +41,18 @@ fitting g comments spaces tokens (Some f) =
     (cond (tokens == 0) (Err refusal.TokensFull)
     (Ok f)))
 
-abbrev pub opening_refusal : Opening → Option Refusal
-opening_refusal Open = None
-opening_refusal TooLong = Some refusal.TooLong
-opening_refusal NotUtf8 = Some refusal.NotUtf8
+abbrev pub refusal_of : OpenError → Refusal
+refusal_of TooLong = refusal.TooLong
+refusal_of NotUtf8 = refusal.NotUtf8
+
+abbrev pub opening_refusal : Result (Unit {0}) OpenError → Option Refusal
+opening_refusal (Ok opened) = None
+opening_refusal (Err why) = Some (refusal_of why)
 
 -- the questions in their order: the opening, the end of the text, and then the above
-abbrev pub verdict : Opening → Bool → Result Found Refusal → Result Found Refusal
-verdict TooLong ended answer = Err refusal.TooLong
-verdict NotUtf8 ended answer = Err refusal.NotUtf8
-verdict Open ended answer = cond ended (Err refusal.AfterEof) answer
+abbrev pub verdict : Result (Unit {0}) OpenError → Bool → Result Found Refusal → Result Found Refusal
+verdict (Err why) ended answer = Err (refusal_of why)
+verdict (Ok opened) ended answer = cond ended (Err refusal.AfterEof) answer
 
 -- a result without its value
 abbrev pub unless : {X : Type 0} → Result X Refusal → Result (Unit {0}) Refusal

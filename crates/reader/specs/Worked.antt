@@ -12,11 +12,10 @@ use Rattle.comments.specs.declared.comment.CommentPosition.TheVariants.{Leading,
 use Rattle.builder.specs.Rows.{no_comment}
 use Rattle.builder.specs.Building.{State, opened, row_for, taken, taken_rows, newline_to, token_to, block_of}
 use Rattle.scanner.specs.Ecma.{Shape, space, newline, irregular_space, irregular_newline, line, block, Placed}
-use Rattle.scanner.specs.Gaps.{gap_from}
+use Rattle.scanner.specs.Gaps.{gap_from, measured}
 use Rattle.tokens.specs.Telling.{Telling}
 use Rattle.tokens.specs.Json.{told, json_telling}
 use Rattle.reader.specs.declared.token_row.Found.{Found}
-use Rattle.reader.specs.Gap.{gap_at}
 use Rattle.reader.specs.Reading.{found, token_after}
 
 -- ---- a reading in order, with rows enough, as the definitions give it
@@ -51,14 +50,10 @@ abbrev with_token : List ℕ → Outcome → Option Found → Outcome
 with_token text r None = r
 with_token text r (Some f) = record { state = token_to (fed_pieces text r.state (gap_from text r.place).pieces) f.token; place = f.token.end; last = Some f }
 
--- whether a comment or an irregular space is new: in a reading straight on each is
-abbrev each_new : ℕ → Bool
-each_new start = true
-
--- so many tokens, one after another
+-- so many tokens, one after another; in a reading straight on each comment and irregular space is new
 abbrev read_on : Bool → Telling → List ℕ → ℕ → Outcome
 read_on banged tell text zero = record { state = record { builder = opened; rows = replicate 4 no_comment; count = 0 }; place = 0; last = None }
-read_on banged tell text (suc n) = with_token text (read_on banged tell text n) (token_after banged tell text (gap_at each_new each_new text (read_on banged tell text n).place))
+read_on banged tell text (suc n) = with_token text (read_on banged tell text n) (token_after banged tell text (measured None None (gap_from text (read_on banged tell text n).place)))
 
 -- ---- the readings
 

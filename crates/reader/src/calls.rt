@@ -1,48 +1,32 @@
 // The calls of a reader.
-ghost use Rattle.std.specs.Prelude.{◌≡◌, min, length, Option};
-ghost use Rattle.reader.specs.Reading.{fitting, unless, opening_refusal};
-ghost use Rattle.reader.specs.View.{reader_text, Opened, reading, row_of, Taken, ReadTo};
-ghost use Rattle.reader.specs.Chained.{reading_scanned, PiecesFed, OpenedOctets};
+ghost use Rattle.std.specs.Prelude.{◌≡◌, ◌<◌, ◌≤◌, min, length, Err, IsUtf8, IsOkAnd, Option};
+ghost use Rattle.reader.specs.declared.OpenError.TheVariants.{TooLong, NotUtf8};
+ghost use Rattle.reader.specs.Reading.{unless, opening_refusal};
+ghost use Rattle.reader.specs.View.{reader_text, Opened, OpenedOctets, reading, row_of, SameLenders, Taken, ReadTo, PiecesFed};
 
 use crate::feed::feed_gap;
-use crate::gap::{Gap, measure_gap};
+use crate::tables::Tables;
 use crate::token_after::token_after;
 use crate::token_row::{Found, TokenRow};
-use crate::{Opening, Reader};
-use builder::span::Span;
+use crate::{OpenError, Reader};
 use builder::state::TriviaBuilder;
-use comments::comment::Comment;
 use kinds::kind::Kind;
 use refusals::Refusal;
+use scanner::gap::measure_gap;
 use source::source::{MAX_LEN, Source};
 use std::str::from_utf8;
-use table::Table;
 use tokens::token_reader::TokenReader;
 
-// Asks whether there is a token, and then whether everything fits.
-fn fit(
-    gap: &Gap,
-    comments: usize,
-    spaces: usize,
-    tokens: usize,
-    found: Option<Found>,
-) -> Result<Found, Refusal>
-    ensures { result ≡ fitting gap.now comments spaces tokens found }
+// The text that some bytes are, if they are at most `limit` and UTF-8.
+fn text_of(bytes: &[u8], limit: usize) -> Result<&str, OpenError>
+    ensures long { limit < length bytes.now → result ≡ Err TooLong }
+    ensures wrong { length bytes.now ≤ limit → (IsUtf8 bytes.now → ⊥) → result ≡ Err NotUtf8 }
+    ensures fine { length bytes.now ≤ limit → IsUtf8 bytes.now → IsOkAnd result (λ t. t.now ≡ bytes.now) }
 {
-    match found {
-        None => Err(Refusal::NoToken(gap.end)),
-        Some(f) => {
-            if gap.comments > comments {
-                Err(Refusal::CommentsFull)
-            } else if gap.spaces > spaces {
-                Err(Refusal::SpacesFull)
-            } else if tokens == 0 {
-                Err(Refusal::TokensFull)
-            } else {
-                Ok(f)
-            }
-        }
+    if bytes.len() > limit {
+        return Err(OpenError::TooLong);
     }
+    from_utf8(bytes).map_err(|_| OpenError::NotUtf8)
 }
 
 fn make_row(found: Found, builder: &TriviaBuilder) -> TokenRow
@@ -62,28 +46,12 @@ impl<'t> Reader<'t> {
         ensures opened { Opened bytes.now (min limit 4294967039) result }
         ensures octets { OpenedOctets bytes.now (min limit 4294967039) result }
     {
-        let most = if limit < MAX_LEN { limit } else { MAX_LEN };
-        if bytes.len() > most {
-            return Reader {
-                opening: Opening::TooLong,
-                source: Source::new(""),
-                builder: TriviaBuilder::new(),
-                ended: false,
-            };
-        }
-        match from_utf8(bytes) {
-            Ok(text) => Reader {
-                opening: Opening::Open,
-                source: Source::new(text),
-                builder: TriviaBuilder::new(),
-                ended: false,
-            },
-            Err(_) => Reader {
-                opening: Opening::NotUtf8,
-                source: Source::new(""),
-                builder: TriviaBuilder::new(),
-                ended: false,
-            },
+        let text = text_of(bytes, limit.min(MAX_LEN));
+        Reader {
+            opening: text.map(|_| ()),
+            source: Source::new(text.unwrap_or("")),
+            builder: TriviaBuilder::new(),
+            ended: false,
         }
     }
 
@@ -91,11 +59,7 @@ impl<'t> Reader<'t> {
     pub fn refusal(&self) -> Option<Refusal>
         ensures { result ≡ opening_refusal self.now.opening }
     {
-        match self.opening {
-            Opening::Open => None,
-            Opening::TooLong => Some(Refusal::TooLong),
-            Opening::NotUtf8 => Some(Refusal::NotUtf8),
-        }
+        self.opening.err().map(Refusal::from)
     }
 
     // Whether the latest token is Eof.
@@ -112,76 +76,47 @@ impl<'t> Reader<'t> {
     }
 
     // What a reading comes to: the token that it finds, or why it is refused.
-    fn look<R: TokenReader>(
-        &self,
-        r: &R,
-        tokens: &Table<'_, TokenRow>,
-        comments: &Table<'_, Comment>,
-        spaces: &Table<'_, Span>,
-    ) -> Result<Found, Refusal>
-        ensures { result ≡ reading R.banged (R.telling r.now) self.now tokens.now comments.now spaces.now }
+    fn look<R: TokenReader>(&self, r: &R, tables: &Tables<'_>) -> Result<Found, Refusal>
+        ensures { result ≡ reading R.banged (R.telling r.now) self.now tables.now }
     {
-        match self.opening {
-            Opening::TooLong => Err(Refusal::TooLong),
-            Opening::NotUtf8 => Err(Refusal::NotUtf8),
-            Opening::Open => {
-                if self.ended {
-                    return Err(Refusal::AfterEof);
-                }
-                let gap = measure_gap(&self.source, comments, spaces);
-                fit(
-                    &gap,
-                    comments.room(),
-                    spaces.room(),
-                    tokens.room(),
-                    token_after(r, self.source.whole(), &gap),
-                )
-            }
+        self.opening?;
+        if self.ended {
+            return Err(Refusal::AfterEof);
         }
+        let gap = measure_gap(
+            &self.source,
+            tables.comments.last_start(),
+            tables.spaces.last_start(),
+        );
+        let found = token_after(r, self.source.whole(), &gap);
+        tables.fit(&gap, found)
     }
 
     // Takes a token and its gap on record.
-    fn take_in(
-        &mut self,
-        found: Found,
-        tokens: &mut Table<'_, TokenRow>,
-        comments: &mut Table<'_, Comment>,
-        spaces: &mut Table<'_, Span>,
-    )
-        ensures taken { Taken found self.old self.new tokens.old tokens.new comments.old comments.new spaces.old spaces.new }
-        ensures lenders { (tokens.new.rows.ghost_name ≡ tokens.old.rows.ghost_name) × ((comments.new.rows.ghost_name ≡ comments.old.rows.ghost_name) × (spaces.new.rows.ghost_name ≡ spaces.old.rows.ghost_name)) }
+    fn take_in(&mut self, found: Found, tables: &mut Tables<'_>)
+        ensures taken { Taken found self.old self.new tables.old tables.new }
+        ensures lenders { SameLenders tables.old tables.new }
     {
         let mut builder = self.builder;
         builder.clear_pure_comments();
         builder.clear_no_side_effects_comments();
-        feed_gap(&mut builder, comments, spaces, &self.source);
-        builder.handle_token(comments, found.token);
-        let _ = tokens.append(make_row(found, &builder));
+        feed_gap(&mut builder, tables, &self.source);
+        builder.handle_token(&mut tables.comments, found.token);
+        let _ = tables.tokens.append(make_row(found, &builder));
         self.builder = builder;
         self.source.set_position(found.token.end as usize);
         self.ended = found.token.kind.is(Kind::Eof);
     }
 
     // Reads the next token with its gap.
-    pub fn read<R: TokenReader>(
-        &mut self,
-        r: &R,
-        tokens: &mut Table<'_, TokenRow>,
-        comments: &mut Table<'_, Comment>,
-        spaces: &mut Table<'_, Span>,
-    ) -> Result<(), Refusal>
-        ensures answer { result ≡ unless (reading R.banged (R.telling r.now) self.old tokens.old comments.old spaces.old) }
-        ensures left { ReadTo (reading R.banged (R.telling r.now) self.old tokens.old comments.old spaces.old) self.old self.new tokens.old tokens.new comments.old comments.new spaces.old spaces.new }
-        ensures scanned { result ≡ unless (reading_scanned R.banged (R.telling r.now) self.old tokens.old comments.old spaces.old) }
-        ensures pieces { PiecesFed (reading_scanned R.banged (R.telling r.now) self.old tokens.old comments.old spaces.old) self.old self.new comments.old comments.new spaces.old spaces.new }
-        ensures lenders { (tokens.new.rows.ghost_name ≡ tokens.old.rows.ghost_name) × ((comments.new.rows.ghost_name ≡ comments.old.rows.ghost_name) × (spaces.new.rows.ghost_name ≡ spaces.old.rows.ghost_name)) }
+    pub fn read<R: TokenReader>(&mut self, r: &R, tables: &mut Tables<'_>) -> Result<(), Refusal>
+        ensures answer { result ≡ unless (reading R.banged (R.telling r.now) self.old tables.old) }
+        ensures left { ReadTo (reading R.banged (R.telling r.now) self.old tables.old) self.old self.new tables.old tables.new }
+        ensures pieces { PiecesFed (reading R.banged (R.telling r.now) self.old tables.old) self.old self.new tables.old tables.new }
+        ensures lenders { SameLenders tables.old tables.new }
     {
-        match self.look(r, tokens, comments, spaces) {
-            Err(e) => Err(e),
-            Ok(found) => {
-                self.take_in(found, tokens, comments, spaces);
-                Ok(())
-            }
-        }
+        let found = self.look(r, tables)?;
+        self.take_in(found, tables);
+        Ok(())
     }
 }

@@ -1,27 +1,42 @@
 #![tactic(auto)]
 // Reads a text token by token into the tables of a caller.
+ghost use Rattle.std.specs.Prelude.{◌≡◌};
+ghost use Rattle.reader.specs.Reading.{refusal_of};
+
 use builder::state::TriviaBuilder;
+use refusals::Refusal;
 use source::source::Source;
 
 pub mod calls;
 pub mod examples;
 pub mod feed;
-pub mod gap;
+pub mod tables;
 pub mod token_after;
 pub mod token_row;
 pub mod worked;
 
-// Whether the text was opened, or why not.
-#[derive(Clone, Copy)]
-pub enum Opening {
-    Open,
+// Why a text is not opened.
+#[derive(Clone, Copy, Debug, PartialEq, Eq)]
+pub enum OpenError {
     TooLong,
     NotUtf8,
 }
 
+impl From<OpenError> for Refusal {
+    ghost from_gives = { λ why refusal. refusal ≡ refusal_of why };
+
+    fn from(why: OpenError) -> Refusal {
+        match why {
+            OpenError::TooLong => Refusal::TooLong,
+            OpenError::NotUtf8 => Refusal::NotUtf8,
+        }
+    }
+}
+
 #[derive(Drop)]
 pub struct Reader<'t> {
-    opening: Opening,
+    // Whether the text was opened.
+    opening: Result<(), OpenError>,
     source: Source<'t>,
     builder: TriviaBuilder,
     // The latest token is Eof.

@@ -3,13 +3,12 @@ use Rattle.source.specs.View.{text_of, place_of}
 use Rattle.scanner.specs.Ecma.{Shape, piece}
 use Rattle.scanner.specs.Pieces.{piece_at}
 use Rattle.scanner.specs.View.{shape_of, standing_of}
-use Rattle.reader.specs.Feeding.{Tables, tables_of, FedBy}
-use Rattle.reader.proofs.Gaps.{moves}
-use Rattle.reader.proofs.Feeds.{Feeding, feeding_start, feeding_more, feeding_ends, no_piece}
+use Rattle.reader.specs.Feeding.{FedState, fed_state, FedBy}
+use Rattle.reader.proofs.Feeds.{Feeding, feeding_start, feeding_more, feeding_ends, no_piece, moves}
 use Rattle.reader.proofs.feed.feed_gap.Goals as goal
 
 pub loop-piece-init : goal.loop-piece-init
-loop-piece-init c = (refl, refl, refl, feeding_start _ _ _)
+loop-piece-init c = (refl, refl, (refl, refl, refl), feeding_start _ _ _)
 
 pub loop-piece-preserved : goal.loop-piece-preserved
 loop-piece-preserved c =
@@ -18,9 +17,9 @@ loop-piece-preserved c =
     let start : ℕ = c.in-Found.piece.start in
     let end : ℕ = c.in-Found.piece.end in
     let shape : Shape = shape_of c.in-Found.piece.trivia in
-    let first : Tables = tables_of c.args.builder.now c.args.comments.now c.args.spaces.now in
-    let before : Tables = tables_of c.loop-piece.builder c.loop-piece.comments c.loop-piece.spaces in
-    let after : Tables = tables_of c.feed_piece.new.builder c.feed_piece.new.comments c.feed_piece.new.spaces in
+    let first : FedState = fed_state c.args.builder.now c.args.tables.now in
+    let before : FedState = fed_state c.loop-piece.builder c.loop-piece.tables in
+    let after : FedState = fed_state c.feed_piece.new.builder c.feed_piece.new.tables in
     let same : text_of c.loop-piece.ahead ≡ text = ap (λ (r : Bor (List ℕ)). r.now) c.loop-piece.invariant.0 in
     let stands : piece_at text here ≡ piece start end shape = ap (λ (l : List ℕ). piece_at l here) (sym same) ∙ sym c.in-Found.ensures.value in
     let lands = c.in-Found.ensures.lands in
@@ -42,6 +41,7 @@ returns c =
     let same : text_of c.loop-piece.ahead ≡ text = ap (λ (r : Bor (List ℕ)). r.now) c.loop-piece.invariant.0 in
     let stands : piece_at text here ≡ standing_of c.piece_at.result = ap (λ (l : List ℕ). piece_at l here) (sym same) ∙ sym c.piece_at.ensures.value in
     record {
-      fed = feeding_ends text (place_of c.args.source.now) (tables_of c.args.builder.now c.args.comments.now c.args.spaces.now) here _ (standing_of c.piece_at.result) stands (no_piece c.piece_at.result c.in_default.not-Found) c.loop-piece.invariant.3;
-      lenders = (c.loop-piece.invariant.1, c.loop-piece.invariant.2);
+      fed = feeding_ends text (place_of c.args.source.now) (fed_state c.args.builder.now c.args.tables.now) here _ (standing_of c.piece_at.result) stands (no_piece c.piece_at.result c.in_default.not-Found) c.loop-piece.invariant.3;
+      tokens = c.loop-piece.invariant.1;
+      lenders = c.loop-piece.invariant.2;
     }

@@ -18,7 +18,7 @@ returns c =
     let within : end ≤ length text = subst Within same c.read_hashbang_comment-end.ensures.within.1 c.requires.long in
     let cut : IsCharBoundary text end = cut_before_terminator text end within (subst Stops same c.read_hashbang_comment-end.ensures.stops) in
     let Cut : ℕ → Type 0 = λ k. IsCharBoundary text k in
-    let is = c.make_found.ensures in
+    let is = c.found_after.ensures in
     record {
       value = is ∙ ap (λ (k : ℕ). found HashbangComment c.args.gap.now.end k c.args.gap.now.newline false) to;
       lands = subst Cut (sym (ap (λ (f : Found). f.token.end) is)) cut;
