@@ -1,10 +1,9 @@
 -- Bytes written one after another.
-use Rattle.std.proofs.Common.{◌≡◌, ℕ, ◌+◌, ◌/◌, ◌%◌, ◌^◌, ◌<◌, ◌≤◌, min, List, [], ◌∷◌, ◌++◌, length, get_or, take, drop, set, decimal, sym, refl, ap, ◌∙◌, subst, ⊎_elim, append_assoc, add-zero, arith, length-set}
-use Rattle.std.proofs.lemmas.List.{length_push, set_past, set_at, take_more, take_all, append-nil}
+use Rattle.std.proofs.Common.{◌≡◌, ℕ, ◌+◌, ◌^◌, ◌<◌, ◌≤◌, min, List, [], ◌∷◌, ◌++◌, length, get_or, take, drop, set, decimal, sym, refl, ap, ◌∙◌, subst, ⊎_elim, append_assoc, add-zero, arith, length-set}
+use Rattle.std.proofs.lemmas.List.{length_push, set_past, set_at, take_more, append-nil}
 use Rattle.std.proofs.lemmas.Bool.{cases_lt}
-use Rattle.std.proofs.lemmas.Fmt.{decimal_digit, decimal_step}
 use Rattle.listing.specs.declared.out.Out.{Out}
-use Rattle.listing.specs.Bytes.{laid, Wrote, fields_of, line_of}
+use Rattle.listing.specs.Bytes.{laid, Wrote, Writes, fields_of}
 
 pub length-laid : (buffer : List ℕ) (at : ℕ) (xs : List ℕ) → length (laid buffer at xs) ≡ length buffer
 length-laid buffer at [] = refl
@@ -25,37 +24,26 @@ wrote_push buffer xs o p b h longer after fits =
     (cases_lt 18446744073709551615 (length xs)) in
     record { long = omega (arith, h.long, length_push xs b); bytes = after ∙ ap (λ (l : List ℕ). set l o.len b) h.bytes ∙ at ∙ sym (laid_push buffer 0 xs b) }
 
--- one digit, or the front of the number and its last digit
-pub wrote_digit : (buffer xs : List ℕ) (n : ℕ) (p : Out) → n < 10 → Wrote buffer (xs ++ (48 + n) ∷ []) p → Wrote buffer (xs ++ decimal n) p
-wrote_digit buffer xs n p small h = let W : List ℕ → Type 0 = λ l. Wrote buffer (xs ++ l) p in subst W (sym (decimal_digit n small)) h
+-- nothing more, one part and then another, and a part by another name
+pub writes_none : (o : Out) → Writes [] o o
+writes_none o = record { wrote = λ buffer xs h. let W : List ℕ → Type 0 = λ l. Wrote buffer l o in subst W (sym (append-nil xs)) h; lender = refl }
 
-pub wrote_digits : (buffer xs : List ℕ) (n : ℕ) (p : Out) → 10 ≤ n → n < 2 ^ 64 → Wrote buffer ((xs ++ decimal (n / 10)) ++ (48 + n % 10) ∷ []) p → Wrote buffer (xs ++ decimal n) p
-wrote_digits buffer xs n p large fits h =
-    let W : List ℕ → Type 0 = λ l. Wrote buffer l p in
-    subst W (append_assoc xs (decimal (n / 10)) ((48 + n % 10) ∷ []) ∙ ap (λ (l : List ℕ). xs ++ l) (sym (decimal_step n large fits))) h
+pub writes_then : {xs ys : List ℕ} {o p q : Out} → Writes xs o p → Writes ys p q → Writes (xs ++ ys) o q
+writes_then {xs = xs} {ys = ys} {q = q} h k = record {
+  wrote = λ buffer front w. let W : List ℕ → Type 0 = λ l. Wrote buffer l q in subst W (append_assoc front xs ys) (k.wrote buffer (front ++ xs) (h.wrote buffer front w));
+  lender = k.lender ∙ h.lender;
+}
+
+pub writes_is : {xs ys : List ℕ} {o p : Out} → xs ≡ ys → Writes xs o p → Writes ys o p
+writes_is {o = o} {p = p} e h = let W : List ℕ → Type 0 = λ l. Writes l o p in subst W e h
 
 -- the fields, one more
-fields_more : (ns : List ℕ) (n : ℕ) → fields_of (ns ++ n ∷ []) ≡ fields_of ns ++ (32 ∷ decimal n)
-fields_more [] n = ap (λ (l : List ℕ). 32 ∷ l) (append-nil (decimal n))
-fields_more (m ∷ ns) n = ap (λ (l : List ℕ). 32 ∷ (decimal m ++ l)) (fields_more ns n) ∙ ap (λ (l : List ℕ). 32 ∷ l) (sym (append_assoc (decimal m) (fields_of ns) (32 ∷ decimal n)))
+fields_push : (ns : List ℕ) (n : ℕ) → fields_of (ns ++ n ∷ []) ≡ fields_of ns ++ (32 ∷ decimal n)
+fields_push [] n = ap (λ (l : List ℕ). 32 ∷ l) (append-nil (decimal n))
+fields_push (m ∷ ns) n = ap (λ (l : List ℕ). 32 ∷ (decimal m ++ l)) (fields_push ns n) ∙ ap (λ (l : List ℕ). 32 ∷ l) (sym (append_assoc (decimal m) (fields_of ns) (32 ∷ decimal n)))
 
-pub wrote_field : (buffer xs ns : List ℕ) (i : ℕ) (p : Out) → i < length ns → Wrote buffer (((xs ++ fields_of (take i ns)) ++ 32 ∷ []) ++ decimal (get_or ns i 0)) p → Wrote buffer (xs ++ fields_of (take (i + 1) ns)) p
-wrote_field buffer xs ns i p lt h =
-    let W : List ℕ → Type 0 = λ l. Wrote buffer l p in
-    let e : fields_of (take (i + 1) ns) ≡ fields_of (take i ns) ++ (32 ∷ decimal (get_or ns i 0)) = ap fields_of (take_more ns i 0 lt) ∙ fields_more (take i ns) (get_or ns i 0) in
-    subst W (append_assoc (xs ++ fields_of (take i ns)) (32 ∷ []) (decimal (get_or ns i 0)) ∙ append_assoc xs (fields_of (take i ns)) (32 ∷ decimal (get_or ns i 0)) ∙ ap (λ (l : List ℕ). xs ++ l) (sym e)) h
-
-pub wrote_fields : (buffer xs ns : List ℕ) (i : ℕ) (p : Out) → length ns ≤ i → Wrote buffer (xs ++ fields_of (take i ns)) p → Wrote buffer (xs ++ fields_of ns) p
-wrote_fields buffer xs ns i p all h = let W : List ℕ → Type 0 = λ l. Wrote buffer (xs ++ fields_of l) p in subst W (take_all i ns all) h
-
-pub wrote_line : (buffer xs ns : List ℕ) (mark : ℕ) (p : Out) → Wrote buffer (((xs ++ mark ∷ []) ++ fields_of ns) ++ 10 ∷ []) p → Wrote buffer (xs ++ line_of mark ns) p
-wrote_line buffer xs ns mark p h =
-    let W : List ℕ → Type 0 = λ l. Wrote buffer l p in
-    subst W (append_assoc (xs ++ mark ∷ []) (fields_of ns) (10 ∷ []) ∙ append_assoc xs (mark ∷ []) (fields_of ns ++ (10 ∷ []))) h
-
--- four parts, one after another
-pub wrote_four : (buffer xs a b c d : List ℕ) (p : Out) → Wrote buffer ((((xs ++ a) ++ b) ++ c) ++ d) p → Wrote buffer (xs ++ (a ++ (b ++ (c ++ d)))) p
-wrote_four buffer xs a b c d p h = let W : List ℕ → Type 0 = λ l. Wrote buffer l p in subst W (append_assoc ((xs ++ a) ++ b) c d ∙ append_assoc (xs ++ a) b (c ++ d) ∙ append_assoc xs a (b ++ (c ++ d))) h
+pub fields_more : (ns : List ℕ) (i : ℕ) → i < length ns → fields_of (take i ns) ++ (32 ∷ decimal (get_or ns i 0)) ≡ fields_of (take (i + 1) ns)
+fields_more ns i lt = sym (ap fields_of (take_more ns i 0 lt) ∙ fields_push (take i ns) (get_or ns i 0))
 
 -- what is written whole is followed by the rest of the buffer
 laid_at : (front buffer : List ℕ) (xs : List ℕ) → length xs ≤ length buffer → laid (front ++ buffer) (length front) xs ≡ front ++ (xs ++ drop (length xs) buffer)

@@ -12,6 +12,11 @@ pub record Wrote (buffer xs : List ℕ) (o : Out) : Type 0 where
   pub long : o.len ≡ min (length xs) 18446744073709551615
   pub bytes : o.bytes.now ≡ laid buffer 0 xs
 
+-- more bytes were written, after what was written before, whatever that was
+pub record Writes (more : List ℕ) (o p : Out) : Type 0 where
+  pub wrote : (buffer xs : List ℕ) → Wrote buffer xs o → Wrote buffer (xs ++ more) p
+  pub lender : p.bytes.ghost_name ≡ o.bytes.ghost_name
+
 -- fields in decimal digits, each after one space
 abbrev pub fields_of : List ℕ → List ℕ
 fields_of [] = []

@@ -6,6 +6,8 @@ use Rattle.refusals.specs.declared.Refusal.TheVariants.{ListingTooLong}
 use Rattle.comments.specs.declared.comment.Comment.{Comment}
 use Rattle.comments.specs.Rows.{kind_number, content_number, position_number}
 use Rattle.builder.specs.declared.span.Span.{Span}
+use Rattle.table.specs.View.{kept_of}
+use Rattle.reader.specs.declared.tables.Tables.{Tables}
 use Rattle.reader.specs.declared.token_row.TokenRow.{TokenRow}
 use Rattle.refusals.specs.Numbers.{number_of}
 use Rattle.listing.specs.Bytes.{line_of}
@@ -61,6 +63,10 @@ end_fields cs ss long = length cs ∷ length ss ∷ comment_bytes cs ∷ share (
 
 abbrev pub listing : List TokenRow → List Comment → List Span → ℕ → List ℕ
 listing ts cs ss long = lines_of comment_line cs ++ (lines_of space_line ss ++ (unterminated_line (last_row ts) ++ line_of 69 (end_fields cs ss long)))
+
+-- the listing of what the tables have on record
+abbrev pub listing_of : Tables → ℕ → List ℕ
+listing_of t long = listing (kept_of t.tokens) (kept_of t.comments) (kept_of t.spaces) long
 
 -- what listing answers: the refusal of the text, then whether the listing fits, then how many bytes it has
 abbrev pub listed : Option Refusal → List ℕ → ℕ → Result ℕ Refusal

@@ -1,8 +1,8 @@
 // The lines of a listing, in their order.
-ghost use Rattle.std.specs.Prelude.{◌≡◌, ℕ, List, ◌++◌};
+ghost use Rattle.std.specs.Prelude.{◌≡◌};
 ghost use Rattle.table.specs.View.{kept_of};
-ghost use Rattle.listing.specs.Bytes.{Wrote};
-ghost use Rattle.listing.specs.Listing.{comment_bytes, share, end_fields, unterminated_line, last_row, listing};
+ghost use Rattle.listing.specs.Bytes.{Writes};
+ghost use Rattle.listing.specs.Listing.{comment_bytes, share, end_fields, unterminated_line, last_row, listing_of};
 
 use crate::out::Out;
 use crate::rows::put_rows;
@@ -10,6 +10,7 @@ use builder::span::Span;
 use comments::comment::{Comment, CommentContent, CommentKind, CommentPosition};
 use kinds::kind::Kind;
 use kinds::token::Token;
+use reader::tables::Tables;
 use reader::token_row::TokenRow;
 use table::Table;
 
@@ -60,13 +61,13 @@ fn share_of(bytes: u64, text_len: u64) -> u64
     }
 }
 
-fn end_fields(comments: &Table<'_, Comment>, spaces: &Table<'_, Span>, text_len: u64) -> [u64; 4]
-    ensures { result ≡ end_fields (kept_of comments.now) (kept_of spaces.now) text_len }
+fn end_fields(tables: &Tables<'_>, text_len: u64) -> [u64; 4]
+    ensures { result ≡ end_fields (kept_of tables.now.comments) (kept_of tables.now.spaces) text_len }
 {
-    let bytes = comment_bytes(comments);
+    let bytes = comment_bytes(&tables.comments);
     [
-        comments.len() as u64,
-        spaces.len() as u64,
+        tables.comments.len() as u64,
+        tables.spaces.len() as u64,
         bytes,
         share_of(bytes, text_len),
     ]
@@ -81,8 +82,7 @@ fn last_row(tokens: &Table<'_, TokenRow>) -> TokenRow
 
 // The line of an unterminated end.
 fn put_unterminated(out: &mut Out<'_>, row: TokenRow)
-    ensures wrote { (buffer xs : List ℕ) → Wrote buffer xs out.old → Wrote buffer (xs ++ unterminated_line row) out.new }
-    ensures lender { out.new.bytes.ghost_name ≡ out.old.bytes.ghost_name }
+    ensures { Writes (unterminated_line row) out.old out.new }
 {
     if row.unterminated {
         out.put_line(b'U', &[row.token.start as u64, row.token.end as u64]);
@@ -90,18 +90,11 @@ fn put_unterminated(out: &mut Out<'_>, row: TokenRow)
 }
 
 // All lines, in their order.
-pub(crate) fn put_all(
-    out: &mut Out<'_>,
-    tokens: &Table<'_, TokenRow>,
-    comments: &Table<'_, Comment>,
-    spaces: &Table<'_, Span>,
-    text_len: u64,
-)
-    ensures wrote { (buffer xs : List ℕ) → Wrote buffer xs out.old → Wrote buffer (xs ++ listing (kept_of tokens.now) (kept_of comments.now) (kept_of spaces.now) text_len) out.new }
-    ensures lender { out.new.bytes.ghost_name ≡ out.old.bytes.ghost_name }
+pub(crate) fn put_all(out: &mut Out<'_>, tables: &Tables<'_>, text_len: u64)
+    ensures { Writes (listing_of tables.now text_len) out.old out.new }
 {
-    put_rows(out, comments, NO_COMMENT);
-    put_rows(out, spaces, Span { start: 0, end: 0 });
-    put_unterminated(out, last_row(tokens));
-    out.put_line(b'E', &end_fields(comments, spaces, text_len));
+    put_rows(out, &tables.comments, NO_COMMENT);
+    put_rows(out, &tables.spaces, Span { start: 0, end: 0 });
+    put_unterminated(out, last_row(&tables.tokens));
+    out.put_line(b'E', &end_fields(tables, text_len));
 }

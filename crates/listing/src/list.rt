@@ -1,69 +1,48 @@
 // The listing of a reading into a caller's buffer.
-ghost use Rattle.std.specs.Prelude.{◌≡◌, ℕ, ◌^◌, ◌<◌, min, List, length, Option};
-ghost use Rattle.table.specs.View.{kept_of};
+ghost use Rattle.std.specs.Prelude.{◌≡◌, min, length};
 ghost use Rattle.reader.specs.Reading.{opening_refusal};
 ghost use Rattle.reader.specs.View.{reader_text};
 ghost use Rattle.listing.specs.Bytes.{laid};
-ghost use Rattle.listing.specs.Listing.{listing, most, listed, listed_bytes, refusal_line};
+ghost use Rattle.listing.specs.Listing.{listing_of, most, listed, listed_bytes, refusal_line};
 
 use crate::lines::put_all;
 use crate::out::Out;
-use builder::span::Span;
-use comments::comment::Comment;
 use reader::Reader;
-use reader::token_row::TokenRow;
+use reader::tables::Tables;
 use refusals::Refusal;
-use table::Table;
 
 // How many bytes the listing has: it is written into no room at all, and counted.
-fn measure(
-    tokens: &Table<'_, TokenRow>,
-    comments: &Table<'_, Comment>,
-    spaces: &Table<'_, Span>,
-    text_len: u64,
-) -> usize
-    ensures { result ≡ min (length (listing (kept_of tokens.now) (kept_of comments.now) (kept_of spaces.now) text_len)) most }
+fn measure(tables: &Tables<'_>, text_len: u64) -> usize
+    ensures { result ≡ min (length (listing_of tables.now text_len)) most }
 {
     let mut none: [u8; 0] = [];
     let mut out = Out::new(&mut none);
-    put_all(&mut out, tokens, comments, spaces, text_len);
+    put_all(&mut out, tables, text_len);
     out.len()
 }
 
 // Writes the listing, which has room.
-fn write_out(
-    buffer: &mut [u8],
-    tokens: &Table<'_, TokenRow>,
-    comments: &Table<'_, Comment>,
-    spaces: &Table<'_, Span>,
-    text_len: u64,
-)
-    ensures { buffer.new ≡ laid buffer.old 0 (listing (kept_of tokens.now) (kept_of comments.now) (kept_of spaces.now) text_len) }
+fn write_out(buffer: &mut [u8], tables: &Tables<'_>, text_len: u64)
+    ensures { buffer.new ≡ laid buffer.old 0 (listing_of tables.now text_len) }
 {
     let mut out = Out::new(buffer);
-    put_all(&mut out, tokens, comments, spaces, text_len);
+    put_all(&mut out, tables, text_len);
 }
 
 // Lists what the tables have on record. The answer is how many bytes the listing has; the others of the buffer are left alone.
-pub fn list(
-    reader: &Reader<'_>,
-    tokens: &Table<'_, TokenRow>,
-    comments: &Table<'_, Comment>,
-    spaces: &Table<'_, Span>,
-    buffer: &mut [u8],
-) -> Result<usize, Refusal>
-    ensures answer { result ≡ listed (opening_refusal reader.now.opening) (listing (kept_of tokens.now) (kept_of comments.now) (kept_of spaces.now) (length (reader_text reader.now))) (length buffer.old) }
-    ensures bytes { buffer.new ≡ listed_bytes result (listing (kept_of tokens.now) (kept_of comments.now) (kept_of spaces.now) (length (reader_text reader.now))) buffer.old }
+pub fn list(reader: &Reader<'_>, tables: &Tables<'_>, buffer: &mut [u8]) -> Result<usize, Refusal>
+    ensures answer { result ≡ listed (opening_refusal reader.now.opening) (listing_of tables.now (length (reader_text reader.now))) (length buffer.old) }
+    ensures bytes { buffer.new ≡ listed_bytes result (listing_of tables.now (length (reader_text reader.now))) buffer.old }
 {
     if let Some(refusal) = reader.refusal() {
         return Err(refusal);
     }
     let text_len = reader.text_len() as u64;
-    let len = measure(tokens, comments, spaces, text_len);
+    let len = measure(tables, text_len);
     if len > buffer.len() {
         return Err(Refusal::ListingTooLong);
     }
-    write_out(buffer, tokens, comments, spaces, text_len);
+    write_out(buffer, tables, text_len);
     Ok(len)
 }
 

@@ -1,6 +1,6 @@
 // Bytes written one after another into a buffer; what does not fit is only counted.
-ghost use Rattle.std.specs.Prelude.{◌≡◌, ℕ, ◌^◌, ◌<◌, List, [], ◌∷◌, ◌++◌, length, decimal, slice_set};
-ghost use Rattle.listing.specs.Bytes.{Wrote, fields_of, line_of};
+ghost use Rattle.std.specs.Prelude.{◌≡◌, ◌^◌, ◌<◌, [], ◌∷◌, length, decimal, slice_set};
+ghost use Rattle.listing.specs.Bytes.{Writes, fields_of, line_of};
 
 #[derive(Drop)]
 pub struct Out<'a> {
@@ -24,18 +24,16 @@ impl<'a> Out<'a> {
     }
 
     fn put(&mut self, b: u8)
-        ensures wrote { (buffer xs : List ℕ) → Wrote buffer xs self.old → Wrote buffer (xs ++ b ∷ []) self.new }
-        ensures lender { self.new.bytes.ghost_name ≡ self.old.bytes.ghost_name }
+        ensures { Writes (b ∷ []) self.old self.new }
     {
         let at = self.len;
         write(self.bytes, at, b);
         self.len = at.saturating_add(1);
     }
 
-    // A number in decimal digits.
+    // A number in decimal digits. By hand, since `write!` promises its text only where it succeeds, and not that it does.
     fn put_decimal(&mut self, n: u64)
-        ensures wrote { (buffer xs : List ℕ) → Wrote buffer xs self.old → Wrote buffer (xs ++ decimal n) self.new }
-        ensures lender { self.new.bytes.ghost_name ≡ self.old.bytes.ghost_name }
+        ensures { Writes (decimal n) self.old self.new }
     {
         if n < 10 {
             self.put((48 + n) as u8);
@@ -47,8 +45,7 @@ impl<'a> Out<'a> {
 
     // The fields, each after one space.
     fn put_fields(&mut self, fields: &[u64])
-        ensures wrote { (buffer xs : List ℕ) → Wrote buffer xs self.old → Wrote buffer (xs ++ fields_of fields.now) self.new }
-        ensures lender { self.new.bytes.ghost_name ≡ self.old.bytes.ghost_name }
+        ensures { Writes (fields_of fields.now) self.old self.new }
     {
         for field in fields {
             self.put(b' ');
@@ -58,8 +55,7 @@ impl<'a> Out<'a> {
 
     // A line: its mark, the fields and a line feed.
     pub(crate) fn put_line(&mut self, mark: u8, fields: &[u64])
-        ensures wrote { (buffer xs : List ℕ) → Wrote buffer xs self.old → Wrote buffer (xs ++ line_of mark fields.now) self.new }
-        ensures lender { self.new.bytes.ghost_name ≡ self.old.bytes.ghost_name }
+        ensures { Writes (line_of mark fields.now) self.old self.new }
     {
         self.put(mark);
         self.put_fields(fields);

@@ -1,9 +1,8 @@
 // The lines of comments and irregular spaces, one for each row.
-ghost use Rattle.std.specs.Prelude.{◌≡◌, ℕ, List, ◌++◌};
+ghost use Rattle.std.specs.Prelude.{◌≡◌, ℕ, List};
 ghost use Rattle.table.specs.View.{kept_of};
-ghost use Rattle.listing.specs.declared.out.Out.{Out};
-ghost use Rattle.listing.specs.Bytes.{Wrote};
-ghost use Rattle.listing.specs.Listing.{comment_fields, comment_line, space_line, lines_of, bit};
+ghost use Rattle.listing.specs.Bytes.{Writes};
+ghost use Rattle.listing.specs.Listing.{comment_fields, comment_line, space_line, lines_of};
 
 use crate::out::Out;
 use builder::span::Span;
@@ -15,14 +14,7 @@ pub trait Listed {
     ghost line: { Self → List ℕ };
 
     fn put_row(&self, out: &mut Out<'_>)
-        ensures wrote { (buffer xs : List ℕ) → Wrote buffer xs out.old → Wrote buffer (xs ++ line self.now) out.new }
-        ensures lender { out.new.bytes.ghost_name ≡ out.old.bytes.ghost_name };
-}
-
-fn bit_of(flag: bool) -> u64
-    ensures { result ≡ bit flag }
-{
-    if flag { 1 } else { 0 }
+        ensures { Writes (line self.now) out.old out.new };
 }
 
 fn fields_of(c: &Comment) -> [u64; 8]
@@ -35,8 +27,8 @@ fn fields_of(c: &Comment) -> [u64; 8]
         c.content.number() as u64,
         c.position.number() as u64,
         c.attached_to as u64,
-        bit_of(c.preceded_by_newline),
-        bit_of(c.followed_by_newline),
+        u64::from(c.preceded_by_newline),
+        u64::from(c.followed_by_newline),
     ]
 }
 
@@ -58,8 +50,7 @@ impl Listed for Span {
 
 // The lines of all rows on record.
 pub(crate) fn put_rows<T: Row + Copy + Listed>(out: &mut Out<'_>, table: &Table<'_, T>, none: T)
-    ensures wrote { (buffer xs : List ℕ) → Wrote buffer xs out.old → Wrote buffer (xs ++ lines_of T.line (kept_of table.now)) out.new }
-    ensures lender { out.new.bytes.ghost_name ≡ out.old.bytes.ghost_name }
+    ensures { Writes (lines_of T.line (kept_of table.now)) out.old out.new }
 {
     for i in 0..table.len() {
         table.row(i, none).put_row(out);

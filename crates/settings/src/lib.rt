@@ -12,9 +12,9 @@ use kinds::kind::Kind;
 use kinds::token::Token;
 use listing::list::{list, list_refusal};
 use reader::Reader;
+use reader::tables::Tables;
 use reader::token_row::TokenRow;
 use refusals::Refusal;
-use table::Table;
 use tokens::json::Json;
 
 // The longest text in bytes, the sizes of the tables, and a buffer that every listing of such tables fits.
@@ -52,17 +52,12 @@ const NO_COMMENT: Comment = Comment {
 };
 
 // Reads tokens up to Eof; a reading that succeeds takes a row, so there are no more turns than rows and one.
-fn read_to_eof(
-    reader: &mut Reader<'_>,
-    tokens: &mut Table<'_, TokenRow>,
-    comments: &mut Table<'_, Comment>,
-    spaces: &mut Table<'_, Span>,
-) -> Result<(), Refusal> {
+fn read_to_eof(reader: &mut Reader<'_>, tables: &mut Tables<'_>) -> Result<(), Refusal> {
     for _ in 0..=TOKENS {
         if reader.has_ended() {
             return Ok(());
         }
-        reader.read(&Json, tokens, comments, spaces)?;
+        reader.read(&Json, tables)?;
     }
     Ok(())
 }
@@ -77,15 +72,13 @@ fn list_settings(text: &[u8], out: &mut [u8]) -> Result<usize, Refusal>
     let mut token_rows = [NO_TOKEN; TOKENS];
     let mut comment_rows = [NO_COMMENT; COMMENTS];
     let mut space_rows = [Span { start: 0, end: 0 }; SPACES];
-    let mut tokens = Table::new(&mut token_rows);
-    let mut comments = Table::new(&mut comment_rows);
-    let mut spaces = Table::new(&mut space_rows);
+    let mut tables = Tables::new(&mut token_rows, &mut comment_rows, &mut space_rows);
     let mut reader = Reader::open(text, LIMIT);
     if let Some(refusal) = reader.refusal() {
         return Err(refusal);
     }
-    read_to_eof(&mut reader, &mut tokens, &mut comments, &mut spaces)?;
-    list(&reader, &tokens, &comments, &spaces, out)
+    read_to_eof(&mut reader, &mut tables)?;
+    list(&reader, &tables, out)
 }
 
 // What the program prints of a text: its listing, or the line of the refusal. The answer is how many bytes of the buffer that takes.
@@ -99,5 +92,5 @@ pub fn answer(text: &[u8], out: &mut [u8]) -> usize
         Ok(n) => n,
         Err(refusal) => list_refusal(&refusal, out),
     };
-    if n < out.len() { n } else { out.len() }
+    n.min(out.len())
 }

@@ -1,15 +1,14 @@
 use Rattle.std.proofs.Common.{ℕ, ◌<◌, min, List, length, ap, ◌∙◌, arith}
-use Rattle.table.specs.View.{kept_of}
 use Rattle.reader.specs.Reading.{opening_refusal}
 use Rattle.reader.specs.View.{reader_text}
 use Rattle.listing.specs.Bytes.{laid}
-use Rattle.listing.specs.Listing.{listing, most}
+use Rattle.listing.specs.Listing.{listing_of, most}
 use Rattle.listing.proofs.Fitted.{fitted}
 use Rattle.listing.proofs.list.list.Goals as goal
 
 pub returns : goal.returns
 returns c =
-    let all : ℕ → List ℕ = λ n. listing (kept_of c.args.tokens.now) (kept_of c.args.comments.now) (kept_of c.args.spaces.now) n in
+    let all : ℕ → List ℕ = λ n. listing_of c.args.tables.now n in
     let long = c.text_len-text_len.ensures in
     let room : length c.args.buffer.now < most = omega arith in
     let h = fitted (opening_refusal c.args.reader.now.opening) (all (length (reader_text c.args.reader.now))) c.args.buffer.now c.write_out.new.buffer c.measure-len.result c.in_default.ensures (c.measure-len.ensures ∙ ap (λ (n : ℕ). min (length (all n)) most) long) (omega arith) room (c.write_out.ensures ∙ ap (λ (n : ℕ). laid c.args.buffer.now 0 (all n)) long) in

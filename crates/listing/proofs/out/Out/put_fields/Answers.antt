@@ -1,14 +1,14 @@
-use Rattle.std.proofs.Common.{ℕ, List, sym, refl, subst, arith, rules}
-use Rattle.std.proofs.lemmas.List.{append-nil}
-use Rattle.listing.specs.Bytes.{Wrote}
-use Rattle.listing.proofs.Laid.{wrote_field, wrote_fields}
+use Rattle.std.proofs.Common.{ap, arith}
+use Rattle.std.proofs.lemmas.List.{take_all}
+use Rattle.listing.specs.Bytes.{fields_of}
+use Rattle.listing.proofs.Laid.{writes_none, writes_then, writes_is, fields_more}
 use Rattle.listing.proofs.out.Out.put_fields.Goals as goal
 
 pub loop-field-init : goal.loop-field-init
-loop-field-init c = ((λ buffer xs h. let W : List ℕ → Type 0 = λ l. Wrote buffer l c.args.self.now in subst W (sym (append-nil xs)) h), refl)
+loop-field-init c = writes_none _
 
 pub loop-field-preserved : goal.loop-field-preserved
-loop-field-preserved c = ((λ buffer xs h. wrote_field buffer xs c.args.fields.now c.loop-field.field-index _ (omega arith) (c.put_decimal.ensures.wrote buffer _ (c.put.ensures.wrote buffer _ (c.loop-field.invariant.0 buffer xs h)))), search rules)
+loop-field-preserved c = writes_is (fields_more c.args.fields.now c.loop-field.field-index (omega arith)) (writes_then c.loop-field.invariant (writes_then c.put.ensures c.put_decimal.ensures))
 
 pub returns : goal.returns
-returns c = record { wrote = λ buffer xs h. wrote_fields buffer xs c.args.fields.now c.loop-field.field-index _ (omega arith) (c.loop-field.invariant.0 buffer xs h); lender = search rules }
+returns c = writes_is (ap fields_of (take_all c.loop-field.field-index c.args.fields.now (omega arith))) c.loop-field.invariant
