@@ -43,10 +43,10 @@ fn token_attachment(previous: &Token, token: &Token) -> Attachment
 fn goes_back(previous: Kind, next: Kind) -> bool
     ensures { result ≡ goes_back previous next }
 {
-    if previous.is(Kind::Undetermined) {
+    if previous == Kind::Undetermined {
         return false;
     }
-    if next.is(Kind::Eof) {
+    if next == Kind::Eof {
         return true;
     }
     previous.can_end_expression() && next.continues_previous_expression()

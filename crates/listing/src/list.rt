@@ -52,6 +52,6 @@ pub fn list_refusal(refusal: &Refusal, buffer: &mut [u8]) -> usize
     ensures bytes { buffer.new ≡ laid buffer.old 0 (refusal_line refusal.now) }
 {
     let mut out = Out::new(buffer);
-    out.put_line(b'R', &[refusal.number() as u64]);
+    out.put_line(b'R', &[u64::from(u8::from(*refusal))]);
     out.len()
 }

@@ -7,7 +7,7 @@ ghost use Rattle.listing.specs.Listing.{comment_fields, comment_line, space_line
 use crate::out::Out;
 use builder::span::Span;
 use comments::comment::Comment;
-use table::{Row, Table};
+use table::Table;
 
 // A row that has a line of its own.
 pub trait Listed {
@@ -23,9 +23,9 @@ fn fields_of(c: &Comment) -> [u64; 8]
     [
         c.start as u64,
         c.end as u64,
-        c.kind.number() as u64,
-        c.content.number() as u64,
-        c.position.number() as u64,
+        u64::from(u8::from(c.kind)),
+        u64::from(u8::from(c.content)),
+        u64::from(u8::from(c.position)),
         c.attached_to as u64,
         u64::from(c.preceded_by_newline),
         u64::from(c.followed_by_newline),
@@ -49,10 +49,10 @@ impl Listed for Span {
 }
 
 // The lines of all rows on record.
-pub(crate) fn put_rows<T: Row + Copy + Listed>(out: &mut Out<'_>, table: &Table<'_, T>, none: T)
+pub(crate) fn put_rows<T: Listed>(out: &mut Out<'_>, table: &Table<'_, T>)
     ensures { Writes (lines_of T.line (kept_of table.now)) out.old out.new }
 {
-    for i in 0..table.len() {
-        table.row(i, none).put_row(out);
+    for row in table.kept() {
+        row.put_row(out);
     }
 }

@@ -105,7 +105,7 @@ impl<'t> Reader<'t> {
         let _ = tables.tokens.append(make_row(found, &builder));
         self.builder = builder;
         self.source.set_position(found.token.end as usize);
-        self.ended = found.token.kind.is(Kind::Eof);
+        self.ended = found.token.kind == Kind::Eof;
     }
 
     // Reads the next token with its gap.

@@ -3,13 +3,13 @@ use kinds::token::Token;
 use table::Row;
 
 // A token as it is found after its gap.
-#[derive(Clone, Copy)]
+#[derive(Clone, Copy, Debug, Default, PartialEq, Eq)]
 pub struct Found {
     pub token: Token,
     pub unterminated: bool,
 }
 
-#[derive(Clone, Copy)]
+#[derive(Clone, Copy, Debug, Default, PartialEq, Eq)]
 pub struct TokenRow {
     pub token: Token,
     pub pure_comments: Option<(usize, usize)>,

@@ -7,9 +7,7 @@ ghost use Rattle.listing.specs.Bytes.{laid};
 ghost use Rattle.listing.specs.Listing.{refusal_line};
 
 use builder::span::Span;
-use comments::comment::{Comment, CommentContent, CommentKind, CommentPosition};
-use kinds::kind::Kind;
-use kinds::token::Token;
+use comments::comment::Comment;
 use listing::list::{list, list_refusal};
 use reader::Reader;
 use reader::tables::Tables;
@@ -27,29 +25,6 @@ pub const SPACES: usize = 256;
 pub const TOKENS: usize = 1_024;
 
 pub const LISTING: usize = 65_536;
-
-const NO_TOKEN: TokenRow = TokenRow {
-    token: Token {
-        kind: Kind::Eof,
-        start: 0,
-        end: 0,
-        is_on_new_line: false,
-    },
-    pure_comments: None,
-    no_side_effects_comments: None,
-    unterminated: false,
-};
-
-const NO_COMMENT: Comment = Comment {
-    start: 0,
-    end: 0,
-    kind: CommentKind::Line,
-    content: CommentContent::None,
-    position: CommentPosition::Leading,
-    attached_to: 0,
-    preceded_by_newline: false,
-    followed_by_newline: false,
-};
 
 // Reads tokens up to Eof; a reading that succeeds takes a row, so there are no more turns than rows and one.
 fn read_to_eof(reader: &mut Reader<'_>, tables: &mut Tables<'_>) -> Result<(), Refusal> {
@@ -69,9 +44,9 @@ fn list_settings(text: &[u8], out: &mut [u8]) -> Result<usize, Refusal>
     ensures not_octets { length text.now ≤ 32768 → (Utf8Octets text.now → ⊥) → result ≡ Err NotUtf8 }
     ensures refused { OnErr result (out.new ≡ out.old) }
 {
-    let mut token_rows = [NO_TOKEN; TOKENS];
-    let mut comment_rows = [NO_COMMENT; COMMENTS];
-    let mut space_rows = [Span { start: 0, end: 0 }; SPACES];
+    let mut token_rows = [TokenRow::default(); TOKENS];
+    let mut comment_rows = [Comment::default(); COMMENTS];
+    let mut space_rows = [Span::default(); SPACES];
     let mut tables = Tables::new(&mut token_rows, &mut comment_rows, &mut space_rows);
     let mut reader = Reader::open(text, LIMIT);
     if let Some(refusal) = reader.refusal() {
