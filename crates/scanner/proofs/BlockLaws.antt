@@ -1,13 +1,13 @@
 -- The end of a block is that of its first `*/`, and no other place is; a line terminator stands in it exactly if the flag says so.
-use Rattle.std.proofs.Common.{◌≡◌, ℕ, zero, suc, ◌+◌, ◌-◌, ◌<◌, ◌≤◌, Bool, true, false, ◌||◌, ltb, ◌⊎◌, List, [], ◌∷◌, length, get_or, drop, codes, Decides, sym, refl, ap, ◌∙◌, subst, inl, inr, ⊎_elim, arith, lit<, get_or-drop}
+use Rattle.std.proofs.Common.{◌≡◌, ℕ, zero, suc, ◌+◌, ◌-◌, ◌<◌, ◌≤◌, Bool, true, false, ◌||◌, ltb, ◌⊎◌, List, [], ◌∷◌, length, get_or, drop, Ok, Err, Result, codes, Decides, sym, refl, ap, ◌∙◌, subst, inl, inr, ⊎_elim, arith, lit<, get_or-drop}
 use Rattle.std.proofs.lemmas.List.{drop-drop, drop_more, length-drop}
 use Rattle.std.proofs.lemmas.Bool.{and_from, and_parts, both_ways, cases_eq, cases_lt, cases_order, cond_both, eq-eqb, eqb-true, false≢true, lt-ltb, ltb-true, or_cases, or_left, or_right}
 use Rattle.std.proofs.lemmas.Bool.Decides.{Decides-like, same_from_decides}
 use Rattle.scanner.specs.declared.comment.Block.{Block}
-use Rattle.scanner.specs.declared.comment.Block.TheVariants.{Ended, Unterminated}
+use Rattle.scanner.specs.declared.comment.Unterminated.{Unterminated}
 use Rattle.scanner.specs.Ecma.{BytesAt, LineTerminatorAt, LineTerminatorIn, BlockEnds, BlockIs}
 use Rattle.scanner.specs.Ends.{terminator, closes, block_from}
-use Rattle.scanner.proofs.Lines.{get_or-within}
+use Rattle.scanner.proofs.Lines.{ended, unended, get_or-within}
 use Rattle.scanner.proofs.Terminators.{head_byte, stands_at, some_terminator, no_line_terminator}
 
 -- two bytes that stand at a place
@@ -33,9 +33,9 @@ shuts text at h = let e = pair_bytes text at 42 47 h in and_from _ _ (eq-eqb _ _
 abbrev Broken : List ℕ → ℕ → Type 0
 Broken xs n = (k : ℕ) × (k < n) × (0 < terminator (drop k xs))
 
-abbrev Closing : ℕ → Bool → List ℕ → Block → Type 0
-Closing at m xs (Ended e multi) = (j : ℕ) × (e ≡ at + j + 2) × (closes (get_or xs j 0) (get_or xs (suc j) 0) ≡ true) × ((k : ℕ) → k < j → closes (get_or xs k 0) (get_or xs (suc k) 0) ≡ false) × Decides multi ((m ≡ true) ⊎ Broken xs j)
-Closing at m xs (Unterminated multi) = ((k : ℕ) → closes (get_or xs k 0) (get_or xs (suc k) 0) ≡ false) × Decides multi ((m ≡ true) ⊎ Broken xs (length xs))
+abbrev Closing : ℕ → Bool → List ℕ → Result Block Unterminated → Type 0
+Closing at m xs (Ok r) = (j : ℕ) × (r.end ≡ at + j + 2) × (closes (get_or xs j 0) (get_or xs (suc j) 0) ≡ true) × ((k : ℕ) → k < j → closes (get_or xs k 0) (get_or xs (suc k) 0) ≡ false) × Decides r.multi ((m ≡ true) ⊎ Broken xs j)
+Closing at m xs (Err r) = ((k : ℕ) → closes (get_or xs k 0) (get_or xs (suc k) 0) ≡ false) × Decides r.multi ((m ≡ true) ⊎ Broken xs (length xs))
 
 module _ (m : Bool) (b : ℕ) (bs : List ℕ) where
   broken_on : (n : ℕ) → ((m || ltb 0 (terminator (b ∷ bs))) ≡ true) ⊎ Broken bs n → (m ≡ true) ⊎ Broken (b ∷ bs) (suc n)
@@ -58,9 +58,9 @@ module _ (m : Bool) (b : ℕ) (bs : List ℕ) where
   never_yet ajar h zero = ajar
   never_yet ajar h (suc k) = h k
 
-  closing_on : (at : ℕ) (r : Block) → closes b (get_or bs 0 0) ≡ false → Closing (at + 1) (m || ltb 0 (terminator (b ∷ bs))) bs r → Closing at m (b ∷ bs) r
-  closing_on at (Ended e multi) ajar h = (suc h.0, omega (arith, h.1), h.2, not_yet h.0 ajar h.3, flag_on h.0 multi h.4)
-  closing_on at (Unterminated multi) ajar h = (never_yet ajar h.0, flag_on (length bs) multi h.1)
+  closing_on : (at : ℕ) (r : Result Block Unterminated) → closes b (get_or bs 0 0) ≡ false → Closing (at + 1) (m || ltb 0 (terminator (b ∷ bs))) bs r → Closing at m (b ∷ bs) r
+  closing_on at (Ok r) ajar h = (suc h.0, omega (arith, h.1), h.2, not_yet h.0 ajar h.3, flag_on h.0 r.multi h.4)
+  closing_on at (Err r) ajar h = (never_yet ajar h.0, flag_on (length bs) r.multi h.1)
 
 closing : (at : ℕ) (m : Bool) (xs : List ℕ) → Closing at m xs (block_from at m xs)
 closing at m [] = (λ k. refl, (inl, ⊎_elim (λ e. e) (λ h. absurd (omega (arith, h.1)))))
@@ -104,8 +104,8 @@ module _ (text : List ℕ) (from : ℕ) where
       (cases_eq at close))
       (cases_lt at close)
 
-  block_is : (r : Block) → Closing from false (drop from text) r → BlockIs text from r
-  block_is (Ended end multi) h =
+  block_is : (r : Result Block Unterminated) → Closing from false (drop from text) r → BlockIs text from r
+  block_is (Ok r) h =
       let close : ℕ = from + h.0 in
       let shut-there : BytesAt (codes "*/") text close = shut_at text close (sym (close_here h.0) ∙ h.2) in (
         record {
@@ -115,14 +115,14 @@ module _ (text : List ℕ) (from : ℕ) where
           first = λ at on lt. still at on (h.3 (at - from) (omega arith));
           ends = h.1;
         },
-        Decides-like multi
-            (⊎_elim (λ e. absurd (false≢true e)) (λ x. broken_in h.0 end (omega (arith, h.1)) x))
+        Decides-like r.multi
+            (⊎_elim (λ e. absurd (false≢true e)) (λ x. broken_in h.0 r.end (omega (arith, h.1)) x))
             (λ x. inr (in_broken h.0 x.0 x.1 (before_close close x.0 shut-there (omega (arith, x.2, h.1)) x.3) x.3))
             h.4,
       )
-  block_is (Unterminated multi) h = (
+  block_is (Err r) h = (
     λ at on. still at on (h.0 (at - from)),
-    Decides-like multi
+    Decides-like r.multi
         (⊎_elim (λ e. absurd (false≢true e)) (λ x. (from + x.0, omega arith, omega (arith, x.1, length-drop from text), stands_at text (from + x.0) (omega (arith, x.2, ap terminator (drop-drop x.0 from text))))))
         (λ x. inr (in_broken (length (drop from text)) x.0 x.1 (omega (arith, x.1, x.2, length-drop from text)) x.3))
         h.1,
@@ -139,19 +139,19 @@ module _ (text : List ℕ) (from : ℕ) where
       (cases_order h.close k.close)
 
   -- and nothing else is
-  pub block_only : (a b : Block) → BlockIs text from a → BlockIs text from b → a ≡ b
-  block_only (Ended a m) (Ended b n) h k =
-      let e = same_close a b h.0 k.0 in
-      let D : ℕ → Type 0 = λ (i : ℕ). Decides n (LineTerminatorIn text from i) in
-      let f : m ≡ n = same_from_decides m n h.1 (subst D (sym e) k.1) in
-      ap (λ (i : ℕ). Ended i m) e ∙ ap (Ended b) f
-  block_only (Ended a m) (Unterminated n) h k = absurd (k.0 h.0.close h.0.onward h.0.shut)
-  block_only (Unterminated m) (Ended b n) h k = absurd (h.0 k.0.close k.0.onward k.0.shut)
-  block_only (Unterminated m) (Unterminated n) h k = ap Unterminated (same_from_decides m n h.1 k.1)
+  pub block_only : (a b : Result Block Unterminated) → BlockIs text from a → BlockIs text from b → a ≡ b
+  block_only (Ok a) (Ok b) h k =
+      let e = same_close a.end b.end h.0 k.0 in
+      let D : ℕ → Type 0 = λ (i : ℕ). Decides b.multi (LineTerminatorIn text from i) in
+      let f : a.multi ≡ b.multi = same_from_decides a.multi b.multi h.1 (subst D (sym e) k.1) in
+      ap (λ (i : ℕ). ended i a.multi) e ∙ ap (ended b.end) f
+  block_only (Ok a) (Err b) h k = absurd (k.0 h.0.close h.0.onward h.0.shut)
+  block_only (Err a) (Ok b) h k = absurd (h.0 k.0.close k.0.onward k.0.shut)
+  block_only (Err a) (Err b) h k = ap unended (same_from_decides a.multi b.multi h.1 k.1)
 
   -- the same of an answer that was computed
-  pub block_is_law : (r : Block) → r ≡ block_from from false (drop from text) → BlockIs text from r
+  pub block_is_law : (r : Result Block Unterminated) → r ≡ block_from from false (drop from text) → BlockIs text from r
   block_is_law r e = subst (BlockIs text from) (sym e) block_from_is
 
-  pub block_is_only : (r : Block) → r ≡ block_from from false (drop from text) → (other : Block) → BlockIs text from other → other ≡ r
+  pub block_is_only : (r : Result Block Unterminated) → r ≡ block_from from false (drop from text) → (other : Result Block Unterminated) → BlockIs text from other → other ≡ r
   block_is_only r e other h = block_only other r h (block_is_law r e)

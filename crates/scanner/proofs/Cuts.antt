@@ -1,11 +1,10 @@
 -- Where a piece ends the text may be cut.
-use Rattle.std.proofs.Common.{◌≡◌, ℕ, ◌+◌, ◌-◌, ◌<◌, ◌≤◌, Bool, true, false, cond, ◌&&◌, ◌||◌, eqb, ◌⊎◌, List, [], ◌∷◌, ◌++◌, length, get_or, drop, IsUtf8, sym, refl, ap, ◌∙◌, subst, inl, inr, ⊎_elim, add_assoc, arith, lit<, eqb-true}
+use Rattle.std.proofs.Common.{◌≡◌, ℕ, ◌+◌, ◌-◌, ◌<◌, ◌≤◌, Bool, true, false, cond, ◌&&◌, ◌||◌, ◌⊎◌, List, [], ◌∷◌, ◌++◌, length, get_or, drop, IsUtf8, sym, refl, ap, ◌∙◌, subst, inl, inr, add_assoc, arith}
 use lib.Utf8.{encode}
-use Rattle.std.specs.Char.{len_utf8}
 use Rattle.std.specs.Str.{IsCharBoundary}
 use Rattle.std.proofs.lemmas.List.{drop_more}
-use Rattle.std.proofs.lemmas.Str.{IsCharBoundary-after_ascii, IsCharBoundary-past_char, IsUtf8-drop}
-use Rattle.scanner.specs.Ends.{term, terminator}
+use Rattle.std.proofs.lemmas.Str.{IsCharBoundary-after_ascii}
+use Rattle.scanner.specs.Ends.{terminator}
 use Rattle.scanner.proofs.Lines.{term-drop, begins, get_or-within}
 
 -- the three ways of the test for a line terminator
@@ -43,30 +42,6 @@ ps = refl
 -- a line terminator begins where the text may be cut
 pub cut_before_terminator : (bs : List ℕ) (i : ℕ) → i ≤ length bs → (i < length bs → 0 < terminator (drop i bs)) → IsCharBoundary bs i
 cut_before_terminator bs i le stops = (le, λ lt high. begins (get_or bs i 0) (get_or bs (i + 1) 0) (get_or bs (i + 2) 0) (omega (arith, stops lt, term-drop bs i)) high)
-
--- and so it ends
-after : (bs : List ℕ) (i n mark : ℕ) → IsUtf8 bs → IsCharBoundary bs i → n ≡ 3 → encode mark ≡ 226 ∷ 128 ∷ (mark - 8064) ∷ [] → 0 < mark - 8064 → len_utf8 mark ≡ 3 → get_or bs i 0 ≡ 226 → get_or bs (i + 1) 0 ≡ 128 → get_or bs (i + 2) 0 ≡ mark - 8064 → IsCharBoundary bs (i + n)
-after bs i n mark u here three spelt some w a b c =
-    let h = wide bs i mark spelt some a b c in
-    let P : ℕ → Type 0 = λ k. IsCharBoundary bs (i + k) in
-    subst P (w ∙ sym three) (IsCharBoundary-past_char bs h.0 i mark here.0 (IsUtf8-drop bs i u here) h.1)
-
-one : (bs : List ℕ) (i n : ℕ) → IsUtf8 bs → n ≡ 1 → i < length bs → get_or bs i 0 < 128 → IsCharBoundary bs (i + n)
-one bs i n u e lt low = let P : ℕ → Type 0 = λ k. IsCharBoundary bs (i + k) in subst P (sym e) (IsCharBoundary-after_ascii bs i u lt low)
-
-pub cut_after_terminator : (bs : List ℕ) (i n : ℕ) → IsUtf8 bs → IsCharBoundary bs i → n ≡ term (get_or bs i 0) (get_or bs (i + 1) 0) (get_or bs (i + 2) 0) → IsCharBoundary bs (i + n)
-cut_after_terminator bs i n u here is =
-    ⊎_elim
-    (λ e. let P : ℕ → Type 0 = λ k. IsCharBoundary bs k in subst P (omega (arith, is, e)) here)
-    (⊎_elim
-    (λ h. let b10 : (get_or bs i 0 ≡ 10) ⊎ (get_or bs i 0 ≡ 13) = ⊎_elim (λ x. inl (eqb-true _ _ x)) (λ x. inr (eqb-true _ _ x)) h.1 in
-    let low : (0 < get_or bs i 0) × (get_or bs i 0 < 128) = ⊎_elim (λ x. (omega arith, omega arith)) (λ x. (omega arith, omega arith)) b10 in
-    one bs i n u (is ∙ h.0) (get_or-within bs i low.0) low.1)
-    (λ h. ⊎_elim
-    (λ x. after bs i n 8232 u here (is ∙ h.0) ls (lit< tt) refl (eqb-true _ _ h.1.0) (eqb-true _ _ h.1.1) (eqb-true _ _ x))
-    (λ x. after bs i n 8233 u here (is ∙ h.0) ps (lit< tt) refl (eqb-true _ _ h.1.0) (eqb-true _ _ h.1.1) (eqb-true _ _ x))
-    h.1.2))
-    (split (eqb (get_or bs i 0) 10) (eqb (get_or bs i 0) 13) (eqb (get_or bs i 0) 226) (eqb (get_or bs (i + 1) 0) 128) (eqb (get_or bs (i + 2) 0) 168) (eqb (get_or bs (i + 2) 0) 169))
 
 -- after a run of ASCII bytes the text may be cut
 pub cut_after_ascii : (bs : List ℕ) (from to : ℕ) → IsUtf8 bs → from < to → to ≤ length bs → ((k : ℕ) → from ≤ k → k < to → get_or bs k 0 < 128) → IsCharBoundary bs to

@@ -8,7 +8,7 @@ use Rattle.std.proofs.lemmas.Str.{IsCharBoundary-after_ascii, IsCharBoundary-end
 use Rattle.std.proofs.lemmas.Bool.Decides.{nat_tests}
 use Rattle.source.specs.Search.{regular_whitespace}
 use Rattle.scanner.specs.Ecma.{BytesAt, LineEnds, LineSwallowed, line_break, Shape, space, newline, irregular_space, irregular_newline, line, block, PieceIs, OpenBlock, NoPiece, Standing, piece, unterminated, nothing, Stands, Placed, Chain, Gap, GapStops, GapIs}
-use Rattle.scanner.specs.Pieces.{piece_at}
+use Rattle.scanner.specs.Pieces.{piece_at, Lands}
 use Rattle.scanner.specs.Gaps.{gap_by, gap_on, gap_from}
 use Rattle.scanner.proofs.Lines.{get_or-within}
 use Rattle.scanner.proofs.Cuts.{cut_before_terminator, cut_after_ascii}
@@ -54,6 +54,12 @@ module _ (text : List ℕ) (u : IsUtf8 text) where
       let B : ℕ → Type 0 = λ k. IsCharBoundary text k in
       let e : ends.close + 1 + 1 ≡ end = omega (arith, ends.ends) in
       (omega (arith, ends.ends, ends.onward), subst B e (IsCharBoundary-after_ascii text (ends.close + 1) u (get_or-within text (ends.close + 1) (omega (arith, star.1))) (omega (arith, star.1))))
+
+  -- what stands at a place, if it is a piece, does so
+  pub stands_lands : (at : ℕ) (s : Standing) → IsCharBoundary text at → Stands text at s → Lands text at s
+  stands_lands at (piece start end shape) here (e, is) = piece_lands at end shape here is
+  stands_lands at (unterminated multi) here is = tt
+  stands_lands at nothing here is = tt
 
   -- at most n pieces reach from a place to the end of the text
   gap_by_is : (n at : ℕ) (s : Standing) → IsCharBoundary text at → length text ≤ n + at → Stands text at s → ((end : ℕ) → IsCharBoundary text end → at < end → GapIs text end (gap_on text n end)) → GapIs text at (gap_by s (gap_on text n) at)

@@ -1,8 +1,6 @@
 pub mod Lines
 mod Whites
 pub mod Cuts
-mod Comments
-mod Spaces
 mod Terminators
 mod LineLaws
 mod BlockLaws

@@ -1,13 +1,14 @@
 -- What a search skips is no part of the end of a line or of a block.
-use Rattle.std.proofs.Common.{◌≡◌, ℕ, suc, ◌+◌, ◌<◌, ◌≤◌, Bool, true, false, cond, not, ◌&&◌, ◌||◌, eqb, ltb, List, [], ◌∷◌, map, length, get_or, drop, sym, refl, ap, ◌∙◌, subst, ⊎_elim, add-zero, add_assoc, zero-add, one-add, arith, get_or-drop}
-use Rattle.std.specs.List.{prefix_len, range_with_len}
-use Rattle.std.proofs.lemmas.List.{drop_more, drop_all, drop-drop, get_or_past}
+use Rattle.std.proofs.Common.{◌≡◌, ℕ, suc, ◌+◌, ◌-◌, ◌<◌, ◌≤◌, Bool, true, false, cond, not, ◌&&◌, ◌||◌, eqb, ltb, List, [], ◌∷◌, map, length, get_or, drop, codes, Ok, Err, Result, sym, refl, ap, ◌∙◌, subst, ⊎_elim, add-zero, add_assoc, zero-add, one-add, arith, get_or-drop}
+use Rattle.std.specs.List.{prefix_len, range_with_len, slice_range, starts_with}
+use Rattle.std.proofs.lemmas.List.{drop_more, drop_all, drop-drop, get_or_past, length-drop, take_all}
+use Rattle.std.proofs.Math.Bool.{or-false}
 use Rattle.std.proofs.lemmas.Bool.Decides.{nat_tests}
 use Rattle.std.proofs.lemmas.Bool.{cases_lt}
 use Rattle.source.specs.Search.{begins_line_break, begins_multiline_stop, hits, misses}
 use Rattle.std.proofs.lemmas.List.FromFn.{get_or-map-range_with_len}
 use Rattle.scanner.specs.declared.comment.Block.{Block}
-use Rattle.scanner.specs.declared.comment.Block.TheVariants.{Ended, Unterminated}
+use Rattle.scanner.specs.declared.comment.Unterminated.{Unterminated}
 use Rattle.scanner.specs.Ends.{term, terminator, line_end, closes, block_from}
 
 abbrev pub plain : ℕ → Bool
@@ -46,9 +47,6 @@ pub line_skip : (xs : List ℕ) → line_end xs ≡ prefix_len plain xs + line_e
 line_skip [] = refl
 line_skip (b ∷ bs) = step (eqb b 10) (eqb b 13) (eqb b 226) (eqb (get_or bs 0 0) 128 && (eqb (get_or bs 1 0) 168 || eqb (get_or bs 1 0) 169)) line_end b (prefix_len plain bs) bs refl (line_skip bs)
 
-pub short_term : (b c d : ℕ) → (b ≡ 10 → ⊥) → (b ≡ 13 → ⊥) → d ≡ 0 → 0 ≡ term b c d
-short_term b c d n10 n13 e = subst (λ (k : ℕ). 0 ≡ term b c k) (sym e) (grind (arith, nat_tests))
-
 pub leading_same : (p q : ℕ → Bool) (xs : List ℕ) → ((i : ℕ) → p (get_or xs i 0) ≡ q (get_or xs i 0)) → prefix_len p xs ≡ prefix_len q xs
 leading_same p q [] h = refl
 leading_same p q (x ∷ xs) h = ap (λ (b : Bool). cond b (1 + prefix_len p xs) 0) (h 0) ∙ ap (λ (n : ℕ). cond (q x) (1 + n) 0) (leading_same p q xs (λ i. h (suc i)))
@@ -73,20 +71,23 @@ line_end_past xs i e = ap line_end (drop_all i xs e)
 
 -- ---- blocks
 
+-- the two answers about a block, by their parts
+abbrev pub ended : ℕ → Bool → Result Block Unterminated
+ended end multi = Ok (record { end = end; multi = multi })
+
+abbrev pub unended : Bool → Result Block Unterminated
+unended multi = Err (record { multi = multi })
+
 abbrev pub quiet : ℕ → Bool
 quiet b = not (begins_multiline_stop b)
 
-or_false : (m : Bool) → (m || false) ≡ m
-or_false true = refl
-or_false false = refl
-
-bstep : (S A B C L E : Bool) (F : ℕ → Bool → List ℕ → Block) (at b n : ℕ) (m : Bool) (bs : List ℕ) → F at m (b ∷ bs) ≡ cond (S && E) (Ended (at + 2) m) (F (at + 1) (m || ltb 0 (cond (A || B) 1 (cond (C && L) 3 0))) bs) → F (at + 1) m bs ≡ F (at + 1 + n) m (drop n bs) → F at m (b ∷ bs) ≡ F (at + cond (not (S || (A || (B || C)))) (1 + n) 0) m (drop (cond (not (S || (A || (B || C)))) (1 + n) 0) (b ∷ bs))
+bstep : (S A B C L E : Bool) (F : ℕ → Bool → List ℕ → Result Block Unterminated) (at b n : ℕ) (m : Bool) (bs : List ℕ) → F at m (b ∷ bs) ≡ cond (S && E) (ended (at + 2) m) (F (at + 1) (m || ltb 0 (cond (A || B) 1 (cond (C && L) 3 0))) bs) → F (at + 1) m bs ≡ F (at + 1 + n) m (drop n bs) → F at m (b ∷ bs) ≡ F (at + cond (not (S || (A || (B || C)))) (1 + n) 0) m (drop (cond (not (S || (A || (B || C)))) (1 + n) 0) (b ∷ bs))
 bstep true A B C L E F at b n m bs e ih = ap (λ (k : ℕ). F k m (b ∷ bs)) (sym (add-zero at))
 bstep false true B C L E F at b n m bs e ih = ap (λ (k : ℕ). F k m (b ∷ bs)) (sym (add-zero at))
 bstep false false true C L E F at b n m bs e ih = ap (λ (k : ℕ). F k m (b ∷ bs)) (sym (add-zero at))
 bstep false false false true L E F at b n m bs e ih = ap (λ (k : ℕ). F k m (b ∷ bs)) (sym (add-zero at))
 bstep false false false false L E F at b n m bs e ih =
-    e ∙ ap (λ (k : Bool). F (at + 1) k bs) (or_false m) ∙ ih ∙ ap (λ (k : ℕ). F k m (drop n bs)) (add_assoc at 1 n) ∙ ap (λ (k : ℕ). F (at + (1 + n)) m (drop k (b ∷ bs))) (sym (one-add n))
+    e ∙ ap (λ (k : Bool). F (at + 1) k bs) (or-false m) ∙ ih ∙ ap (λ (k : ℕ). F k m (drop n bs)) (add_assoc at 1 n) ∙ ap (λ (k : ℕ). F (at + (1 + n)) m (drop k (b ∷ bs))) (sym (one-add n))
 
 pub block_skip : (xs : List ℕ) (at : ℕ) (m : Bool) → block_from at m xs ≡ block_from (at + prefix_len quiet xs) m (drop (prefix_len quiet xs) xs)
 block_skip [] at m = refl
@@ -99,35 +100,36 @@ block_search xs t i j m is small e =
     let at : j ≡ i + prefix_len quiet (drop i xs) = e ∙ ap (λ (n : ℕ). i + n) same in
     block_skip (drop i xs) i m ∙ ap (block_from (i + prefix_len quiet (drop i xs)) m) (drop-drop (prefix_len quiet (drop i xs)) i xs) ∙ ap (λ (n : ℕ). block_from n m (drop n xs)) (sym at)
 
-pub block_end : (xs : List ℕ) (i : ℕ) (m : Bool) → length xs ≤ i → block_from i m (drop i xs) ≡ Unterminated m
+pub block_end : (xs : List ℕ) (i : ℕ) (m : Bool) → length xs ≤ i → block_from i m (drop i xs) ≡ unended m
 block_end xs i m e = ap (block_from i m) (drop_all i xs e)
 
-pub block_close : (xs : List ℕ) (j : ℕ) (m : Bool) → j < length xs → closes (get_or xs j 0) (get_or xs (j + 1) 0) ≡ true → block_from j m (drop j xs) ≡ Ended (j + 2) m
+pub block_close : (xs : List ℕ) (j : ℕ) (m : Bool) → j < length xs → closes (get_or xs j 0) (get_or xs (j + 1) 0) ≡ true → block_from j m (drop j xs) ≡ ended (j + 2) m
 block_close xs j m lt e =
     let rest = block_from (j + 1) (m || ltb 0 (terminator (get_or xs j 0 ∷ drop (j + 1) xs))) (drop (j + 1) xs) in
     let next : get_or (drop (j + 1) xs) 0 0 ≡ get_or xs (j + 1) 0 = get_or-drop (j + 1) xs 0 0 ∙ ap (λ (k : ℕ). get_or xs k 0) (add-zero (j + 1)) in
-    ap (block_from j m) (drop_more xs j 0 lt) ∙ ap (λ (b : Bool). cond b (Ended (j + 2) m) rest) (ap (closes (get_or xs j 0)) next ∙ e)
+    ap (block_from j m) (drop_more xs j 0 lt) ∙ ap (λ (b : Bool). cond b (ended (j + 2) m) rest) (ap (closes (get_or xs j 0)) next ∙ e)
 
 pub block_on : (xs : List ℕ) (j : ℕ) (m : Bool) → j < length xs → closes (get_or xs j 0) (get_or xs (j + 1) 0) ≡ false → block_from j m (drop j xs) ≡ block_from (j + 1) (m || ltb 0 (terminator (drop j xs))) (drop (j + 1) xs)
 block_on xs j m lt e =
     let d = drop_more xs j 0 lt in
     let rest = block_from (j + 1) (m || ltb 0 (terminator (get_or xs j 0 ∷ drop (j + 1) xs))) (drop (j + 1) xs) in
     let next : get_or (drop (j + 1) xs) 0 0 ≡ get_or xs (j + 1) 0 = get_or-drop (j + 1) xs 0 0 ∙ ap (λ (k : ℕ). get_or xs k 0) (add-zero (j + 1)) in
-    ap (block_from j m) d ∙ ap (λ (b : Bool). cond b (Ended (j + 2) m) rest) (ap (closes (get_or xs j 0)) next ∙ e) ∙ ap (λ (l : List ℕ). block_from (j + 1) (m || ltb 0 (terminator l)) (drop (j + 1) xs)) (sym d)
+    ap (block_from j m) d ∙ ap (λ (b : Bool). cond b (ended (j + 2) m) rest) (ap (closes (get_or xs j 0)) next ∙ e) ∙ ap (λ (l : List ℕ). block_from (j + 1) (m || ltb 0 (terminator l)) (drop (j + 1) xs)) (sym d)
 
--- the flag after a byte
-none : {t : ℕ} → t ≤ 0 → t ≡ 0
-none h = omega arith
+-- what is lent of a text from a place on
+pub rest_from : (xs : List ℕ) (i : ℕ) → slice_range xs i (length xs) ≡ drop i xs
+rest_from xs i = take_all (length xs - i) (drop i xs) (omega (arith, length-drop i xs))
 
-or_true : (m : Bool) (t : ℕ) → 0 < t → (m || ltb 0 t) ≡ true
-or_true true t h = refl
-or_true false t h = grind (arith, nat_tests)
+-- the text goes on with `*/`, by its bytes
+shut : (xs : List ℕ) → starts_with eqb xs (codes "*/") ≡ closes (get_or xs 0 0) (get_or xs 1 0)
+shut [] = refl
+shut (b ∷ []) = grind (arith, nat_tests)
+shut (b ∷ c ∷ bs) = grind (arith, nat_tests)
 
-pub flag : (m n : Bool) (t : ℕ) → (0 < t → n ≡ true) → (t ≡ 0 → n ≡ m) → (m || ltb 0 t) ≡ n
-flag m n t yes-more yes-same = ⊎_elim (λ h. or_true m t h ∙ sym (yes-more h)) (λ h. ap (λ (k : ℕ). m || ltb 0 k) (none h) ∙ or_false m ∙ sym (yes-same (none h))) (cases_lt 0 t)
-
-pub open_end : (b c : ℕ) → c ≡ 0 → false ≡ closes b c
-open_end b c e = grind (arith, nat_tests)
+pub shut_at : (xs : List ℕ) (i : ℕ) → starts_with eqb (slice_range xs i (length xs)) (codes "*/") ≡ closes (get_or xs i 0) (get_or xs (i + 1) 0)
+shut_at xs i =
+    let here : get_or (drop i xs) 0 0 ≡ get_or xs i 0 = get_or-drop i xs 0 0 ∙ ap (λ (k : ℕ). get_or xs k 0) (add-zero i) in
+    ap (λ (l : List ℕ). starts_with eqb l (codes "*/")) (rest_from xs i) ∙ shut (drop i xs) ∙ ap (λ (b : ℕ). closes b (get_or (drop i xs) 1 0)) here ∙ ap (closes (get_or xs i 0)) (get_or-drop i xs 1 0)
 
 -- a star closes only with two bytes in hand
 pub close_within : (xs : List ℕ) (j : ℕ) → closes (get_or xs j 0) (get_or xs (j + 1) 0) ≡ true → get_or xs (j + 1) 0 ≡ 47
@@ -140,7 +142,3 @@ begins b c d h high = grind (arith, nat_tests)
 -- a byte that is not 0 stands in the list
 pub get_or-within : (xs : List ℕ) (k : ℕ) → 0 < get_or xs k 0 → k < length xs
 get_or-within xs k some = ⊎_elim (λ h. h) (λ (past : length xs ≤ k). absurd (omega (arith, get_or_past xs k 0 past))) (cases_lt k (length xs))
-
-pub not_not : (b : Bool) → not (not b) ≡ b
-not_not true = refl
-not_not false = refl

@@ -158,14 +158,16 @@ module _ (text : List ℕ) where
     gap_cut at g here h = chain_on g.pieces at g.end here h.chain
 
 -- what a measure of the gap at a place says
-pub record Measures (text : List ℕ) (at : ℕ) (m : GapMeasure) : Type 0 where
+pub record Measures (text : List ℕ) (at : ℕ) (last_comment last_space : Option ℕ) (m : GapMeasure) : Type 0 where
   pub gap : GapIs text at (gap_from text at)
-  pub only : (g : Gap) → GapIs text at g → g ≡ gap_from text at
+  pub only : (g : Gap) → GapIs text at g → (g ≡ gap_from text at) × (m ≡ measured last_comment last_space g)
   pub cuts : AllByRecursion (CutOut text) (gap_from text at).pieces
   pub newline : Decides m.newline (LineTerminatorIn text at (cond m.unterminated (length text) m.end))
   pub cut : IsCharBoundary text m.end
 
-pub measures : (text : List ℕ) (at : ℕ) (last_comment last_space : Option ℕ) (m : GapMeasure) → IsUtf8 text → IsCharBoundary text at → m ≡ measured last_comment last_space (gap_from text at) → Measures text at m
+pub measures : (text : List ℕ) (at : ℕ) (last_comment last_space : Option ℕ) (m : GapMeasure) → IsUtf8 text → IsCharBoundary text at → m ≡ measured last_comment last_space (gap_from text at) → Measures text at last_comment last_space m
 measures text at last_comment last_space m u here e =
     let is = gap_is text u at here in
-    subst (Measures text at) (sym e) (record { gap = is; only = gap_only text u at here; cuts = gap_cuts text u at (gap_from text at) here is; newline = gap_newline text u at (gap_from text at) here is; cut = (gap_cut text u at (gap_from text at) here is).1 })
+    let only : (g : Gap) → GapIs text at g → (g ≡ gap_from text at) × (measured last_comment last_space (gap_from text at) ≡ measured last_comment last_space g) =
+    (λ g h. let same = gap_only text u at here g h in (same, ap (measured last_comment last_space) (sym same))) in
+    subst (Measures text at last_comment last_space) (sym e) (record { gap = is; only = only; cuts = gap_cuts text u at (gap_from text at) here is; newline = gap_newline text u at (gap_from text at) here is; cut = (gap_cut text u at (gap_from text at) here is).1 })

@@ -1,5 +1,5 @@
 -- What the scanner computes at a place is what stands there, and nothing else stands there.
-use Rattle.std.proofs.Common.{◌≡◌, ℕ, ◌+◌, ◌<◌, ◌≤◌, Bool, true, false, ◌||◌, eqb, leb, List, [], ◌∷◌, ◌++◌, length, get_or, drop, codes, IsUtf8, sym, refl, ap, ◌∙◌, subst, inl, inr, ⊎_elim, arith, lit<}
+use Rattle.std.proofs.Common.{◌≡◌, ℕ, ◌+◌, ◌<◌, ◌≤◌, Bool, true, false, ◌||◌, eqb, leb, List, [], ◌∷◌, ◌++◌, length, get_or, drop, codes, Ok, Err, Result, IsUtf8, sym, refl, ap, ◌∙◌, subst, inl, inr, ⊎_elim, arith, lit<}
 use lib.Utf8.{encode, encodes}
 use Rattle.std.specs.Char.{len_utf8}
 use Rattle.std.specs.Str.{IsCharBoundary}
@@ -12,11 +12,11 @@ use Rattle.source.specs.Search.{regular_whitespace}
 use Rattle.source.specs.Unicode.{irregular_whitespace, irregular_line_terminator, first_char}
 use Rattle.source.proofs.Spelt.{first_spelt}
 use Rattle.scanner.specs.declared.comment.Block.{Block}
-use Rattle.scanner.specs.declared.comment.Block.TheVariants.{Ended, Unterminated}
+use Rattle.scanner.specs.declared.comment.Unterminated.{Unterminated}
 use Rattle.scanner.specs.Ecma.{BytesAt, cut, LineEnds, LineSwallowed, BlockIs, plain_space, line_break, gap_character, space, newline, irregular_space, irregular_newline, line, block, NoPiece, Standing, piece, unterminated, nothing, Stands}
 use Rattle.scanner.specs.Ends.{terminator, line_end}
 use Rattle.scanner.specs.Pieces.{line_to, line_from, block_piece, comment_from, white_from, piece_from, piece_at}
-use Rattle.scanner.proofs.Lines.{get_or-within}
+use Rattle.scanner.proofs.Lines.{ended, unended, get_or-within}
 use Rattle.scanner.proofs.Terminators.{head_byte, term_of, stands_from, some_terminator}
 use Rattle.scanner.proofs.LineLaws.{line_ends, line_only}
 use Rattle.scanner.proofs.BlockLaws.{pair_at, pair_bytes, block_from_is, block_only}
@@ -75,9 +75,9 @@ module _ (text : List ℕ) (at : ℕ) where
       let ends = line_ends text (at + 2) le in
       (refl, (h, (at + 2 + line_end (drop (at + 2) text), ends, swallowed _ ends, refl)))
 
-  block_stands : BytesAt (codes "/*") text at → (b : Block) → BlockIs text (at + 2) b → Stands text at (block_piece text at b)
-  block_stands h (Ended end multi) is = (refl, (h, is, refl))
-  block_stands h (Unterminated multi) is = (h, is)
+  block_stands : BytesAt (codes "/*") text at → (b : Result Block Unterminated) → BlockIs text (at + 2) b → Stands text at (block_piece text at b)
+  block_stands h (Ok b) is = (refl, (h, is, refl))
+  block_stands h (Err b) is = (h, is)
 
   comment_stands : BytesAt (encode 47) text at → Stands text at (comment_from text at (get_or text (at + 1) 0))
   comment_stands h =
@@ -166,7 +166,7 @@ module _ (text : List ℕ) (at : ℕ) where
       ap (λ (l : List ℕ). piece at end (line l)) is ∙ ap (λ (k : ℕ). piece at k (line (cut text at stop))) (past_line stop end ends past)
       ∙ ap (line_to text at) (line_only text (at + 2) stop _ ends (line_ends text (at + 2) le)) ∙ sym (after_slash 47 h)
 
-  block_only_here : BytesAt (codes "/*") text at → (b : Block) → BlockIs text (at + 2) b → block_piece text at b ≡ piece_at text at
+  block_only_here : BytesAt (codes "/*") text at → (b : Result Block Unterminated) → BlockIs text (at + 2) b → block_piece text at b ≡ piece_at text at
   block_only_here h b is = ap (block_piece text at) (block_only text (at + 2) b _ is (block_from_is text (at + 2))) ∙ sym (after_slash 42 h)
 
   -- where no piece begins, none is computed
@@ -189,8 +189,8 @@ module _ (text : List ℕ) (at : ℕ) where
   piece_only u here (piece start end irregular_newline) (e, (c, is, h, w)) = ap (λ (k : ℕ). piece k end irregular_newline) e ∙ break_only c end is h w
   piece_only u here (piece start end (line bytes)) (e, (h, (stop, ends, past, is))) = ap (λ (k : ℕ). piece k end (line bytes)) e ∙ line_only_here stop end bytes h ends past is
   piece_only u here (piece start end (block multi bytes)) (e, (h, b, is)) =
-      ap (λ (k : ℕ). piece k end (block multi bytes)) e ∙ ap (λ (l : List ℕ). piece at end (block multi l)) is ∙ block_only_here h (Ended end multi) b
-  piece_only u here (unterminated multi) (h, b) = block_only_here h (Unterminated multi) b
+      ap (λ (k : ℕ). piece k end (block multi bytes)) e ∙ ap (λ (l : List ℕ). piece at end (block multi l)) is ∙ block_only_here h (ended end multi) b
+  piece_only u here (unterminated multi) (h, b) = block_only_here h (unended multi) b
   piece_only u here nothing h = none_stands (piece_at text at) (piece_stands u here) h
 
   -- the same of an answer that was computed

@@ -1,12 +1,12 @@
 -- What stands between tokens, in the words of ECMA-262: line terminators, white space, comments, and the gap that they make up.
-use Rattle.std.specs.Prelude.{◌≡◌, ℕ, ◌+◌, ◌<◌, ◌≤◌, Bool, true, false, ◌||◌, ◌⊎◌, List, [], ◌∷◌, ◌++◌, length, drop, Some, None, codes, Decides, Option, ◌==◌, slice_index, slice_range}
+use Rattle.std.specs.Prelude.{◌≡◌, ℕ, ◌+◌, ◌<◌, ◌≤◌, Bool, true, false, ◌||◌, ◌⊎◌, List, [], ◌∷◌, ◌++◌, length, drop, Some, None, Ok, Err, codes, Decides, Option, Result, ◌==◌, slice_index, slice_range}
 use Rattle.std.proofs.Math.Utf8.{encode}
 use Rattle.std.specs.Char.{len_utf8}
 use Rattle.std.specs.Str.{IsCharBoundary}
 use Rattle.source.specs.Search.{regular_whitespace}
 use Rattle.source.specs.Unicode.{irregular_whitespace, irregular_line_terminator, line_terminator}
 use Rattle.scanner.specs.declared.comment.Block.{Block}
-use Rattle.scanner.specs.declared.comment.Block.TheVariants.{Ended, Unterminated}
+use Rattle.scanner.specs.declared.comment.Unterminated.{Unterminated}
 
 -- ---- what stands at a place
 
@@ -57,9 +57,9 @@ abbrev pub NeverCloses : List ℕ → ℕ → Type 0
 NeverCloses text from = (at : ℕ) → from ≤ at → BytesAt (codes "*/") text at → ⊥
 
 -- what becomes of a block whose content begins at a place: its end and whether a line terminator stands in it, or that it has no end
-abbrev pub BlockIs : List ℕ → ℕ → Block → Type 0
-BlockIs text from (Ended end multi) = BlockEnds text from end × Decides multi (LineTerminatorIn text from end)
-BlockIs text from (Unterminated multi) = NeverCloses text from × Decides multi (LineTerminatorIn text from (length text))
+abbrev pub BlockIs : List ℕ → ℕ → Result Block Unterminated → Type 0
+BlockIs text from (Ok b) = BlockEnds text from b.end × Decides b.multi (LineTerminatorIn text from b.end)
+BlockIs text from (Err b) = NeverCloses text from × Decides b.multi (LineTerminatorIn text from (length text))
 
 -- ---- white space
 
@@ -104,11 +104,11 @@ PieceIs text at end newline = OneAt line_break text at × RunEnds text (at + 1) 
 PieceIs text at end irregular_space = OneFrom irregular_whitespace text at end
 PieceIs text at end irregular_newline = OneFrom irregular_line_terminator text at end
 PieceIs text at end (line bytes) = BytesAt (codes "//") text at × ((stop : ℕ) × LineEnds text (at + 2) stop × LineSwallowed text stop end × (bytes ≡ cut text at stop))
-PieceIs text at end (block multi bytes) = BytesAt (codes "/*") text at × BlockIs text (at + 2) (Ended end multi) × (bytes ≡ cut text at end)
+PieceIs text at end (block multi bytes) = BytesAt (codes "/*") text at × BlockIs text (at + 2) (Ok (record { end = end; multi = multi })) × (bytes ≡ cut text at end)
 
 -- a block without an end stands at a place, with or without a line terminator in it
 abbrev pub OpenBlock : List ℕ → ℕ → Bool → Type 0
-OpenBlock text at multi = BytesAt (codes "/*") text at × BlockIs text (at + 2) (Unterminated multi)
+OpenBlock text at multi = BytesAt (codes "/*") text at × BlockIs text (at + 2) (Err (record { multi = multi }))
 
 -- white space or a line terminator
 abbrev pub gap_character : ℕ → Bool

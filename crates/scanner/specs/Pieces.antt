@@ -1,12 +1,12 @@
 -- The piece that stands at a place of a text, by the first rule that fits. The place is to be a boundary: elsewhere no character stands.
-use Rattle.std.specs.Prelude.{ℕ, ◌+◌, ◌<◌, false, cond, ◌||◌, List, length, drop, ◌==◌, nat_le, slice_index}
+use Rattle.std.specs.Prelude.{ℕ, ◌+◌, ◌<◌, false, cond, ◌||◌, List, length, drop, Ok, Err, Result, ◌==◌, nat_le, slice_index}
 use Rattle.std.specs.Char.{len_utf8}
 use Rattle.std.specs.Str.{IsCharBoundary}
 use Rattle.std.specs.List.{prefix_len}
 use Rattle.source.specs.Search.{regular_whitespace}
 use Rattle.source.specs.Unicode.{irregular_whitespace, irregular_line_terminator, first_char}
 use Rattle.scanner.specs.declared.comment.Block.{Block}
-use Rattle.scanner.specs.declared.comment.Block.TheVariants.{Ended, Unterminated}
+use Rattle.scanner.specs.declared.comment.Unterminated.{Unterminated}
 use Rattle.scanner.specs.Ecma.{space, newline, irregular_space, irregular_newline, line, block, Standing, piece, unterminated, nothing, cut}
 use Rattle.scanner.specs.Ends.{terminator, line_end, block_from}
 
@@ -17,9 +17,9 @@ line_to text at end = piece at (end + terminator (drop end text)) (line (cut tex
 abbrev pub line_from : List ℕ → ℕ → Standing
 line_from text at = line_to text at (at + 2 + line_end (drop (at + 2) text))
 
-abbrev pub block_piece : List ℕ → ℕ → Block → Standing
-block_piece text at (Ended end multi) = piece at end (block multi (cut text at end))
-block_piece text at (Unterminated multi) = unterminated multi
+abbrev pub block_piece : List ℕ → ℕ → Result Block Unterminated → Standing
+block_piece text at (Ok b) = piece at b.end (block b.multi (cut text at b.end))
+block_piece text at (Err b) = unterminated b.multi
 
 -- after a `/`: the next byte says which comment, if any
 abbrev pub comment_from : List ℕ → ℕ → ℕ → Standing

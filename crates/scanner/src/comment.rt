@@ -1,42 +1,33 @@
 // Where comments and hashbang lines end.
-ghost use Rattle.std.specs.Prelude.{◌≡◌, ℕ, ◌+◌, ◌<◌, ◌≤◌, false, length, drop, slice_index};
+ghost use Rattle.std.specs.Prelude.{◌≡◌, ℕ, ◌+◌, ◌<◌, ◌≤◌, false, length, drop, slice_index, Result};
 ghost use Rattle.source.specs.Unicode.{line_terminator};
 ghost use Rattle.scanner.specs.Ecma.{OneFrom, LineTerminatorAt, LineEnds, BlockIs};
-ghost use Rattle.scanner.specs.Ends.{term, terminator, closes, line_end, block_from, BlockWithin};
+ghost use Rattle.scanner.specs.Ends.{term, terminator, line_end, block_from, BlockWithin};
 
 use source::search;
 
-// Where a block comment ends and whether a line terminator stands in it.
-#[derive(Clone, Copy)]
-pub enum Block {
-    Ended(usize, bool),
-    Unterminated(bool),
+// Where a block comment ends, and whether a line terminator stands in it.
+#[derive(Clone, Copy, PartialEq, Eq, Debug)]
+pub struct Block {
+    pub end: usize,
+    pub multi: bool,
 }
 
-// By the bytes at the place.
-fn terminator_width(text: &[u8], at: usize) -> usize
-    ensures value { result ≡ term (slice_index text.now at) (slice_index text.now (at + 1)) (slice_index text.now (at + 2)) }
-    ensures within { at ≤ length text.now → at + result ≤ length text.now }
+// A block comment without an end, and whether a line terminator stands in it.
+#[derive(Clone, Copy, PartialEq, Eq, Debug)]
+pub struct Unterminated {
+    pub multi: bool,
+}
+
+// How many bytes the line terminator at the front takes, or 0; the text goes on after that many, so 0 is no special case.
+fn terminator_width(rest: &[u8]) -> usize
+    ensures value { result ≡ terminator rest.now }
+    ensures within { result ≤ length rest.now }
 {
-    if at >= text.len() {
-        return 0;
-    }
-    let b = text[at];
-    if b == b'\n' || b == b'\r' {
-        return 1;
-    }
-    if b != 0xE2 {
-        return 0;
-    }
-    if text.len() - at < 3 {
-        return 0;
-    }
-    let c = text[at + 1];
-    let d = text[at + 2];
-    if c == 0x80 && (d == 0xA8 || d == 0xA9) {
-        3
-    } else {
-        0
+    match rest {
+        [b'\n' | b'\r', ..] => 1,
+        [0xE2, 0x80, 0xA8 | 0xA9, ..] => 3,
+        _ => 0,
     }
 }
 
@@ -46,7 +37,7 @@ pub fn terminator_at(text: &[u8], at: usize) -> usize
     ensures stands { (0 < result → OneFrom line_terminator text.now at (at + result)) × (LineTerminatorAt text.now at → 0 < result) }
     ensures within { at ≤ length text.now → at + result ≤ length text.now }
 {
-    terminator_width(text, at)
+    text.get(at..).map_or(0, terminator_width)
 }
 
 // The end of the line that goes on at `from`: the first line terminator, or the end of the text; a place past the end is the answer itself.
@@ -58,53 +49,31 @@ pub fn skip_single_line_comment(text: &[u8], from: usize) -> usize
     ensures stops { result < length text.now → 0 < terminator (drop result text.now) }
 {
     let table = search::line_break_table();
-    let mut end = from;
-    loop {
-        end = search::byte_search(table, text, end);
-        if end >= text.len() {
-            return end;
-        }
-        if terminator_at(text, end) > 0 {
-            return end;
-        }
-        end += 1;
+    let mut end = search::byte_search(table, text, from);
+    while end < text.len() && terminator_at(text, end) == 0 {
+        end = search::byte_search(table, text, end + 1);
     }
-}
-
-// Whether `*/` stands at a place.
-fn closes_at(text: &[u8], at: usize) -> bool
-    requires { at < length text.now }
-    ensures { result ≡ closes (slice_index text.now at) (slice_index text.now (at + 1)) }
-{
-    if text.len() - at < 2 {
-        return false;
-    }
-    text[at] == b'*' && text[at + 1] == b'/'
+    end
 }
 
 // The end of the block comment whose content begins at `from`.
-pub fn skip_multi_line_comment(text: &[u8], from: usize) -> Block
+pub fn skip_multi_line_comment(text: &[u8], from: usize) -> Result<Block, Unterminated>
     ensures value { result ≡ block_from from false (drop from text.now) }
     ensures block { BlockIs text.now from result }
-    ensures only { (b : Block) → BlockIs text.now from b → b ≡ result }
+    ensures only { (b : Result Block Unterminated) → BlockIs text.now from b → b ≡ result }
     ensures within { BlockWithin text.now from result }
 {
     let table = search::multiline_comment_start_table();
-    let mut i = from;
     let mut multi = false;
-    loop {
-        i = search::byte_search(table, text, i);
-        if i >= text.len() {
-            return Block::Unterminated(multi);
+    let mut at = search::byte_search(table, text, from);
+    while at < text.len() {
+        if text[at..].starts_with(b"*/") {
+            return Ok(Block { end: at + 2, multi });
         }
-        if closes_at(text, i) {
-            return Block::Ended(i + 2, multi);
-        }
-        if terminator_at(text, i) > 0 {
-            multi = true;
-        }
-        i += 1;
+        multi |= terminator_at(text, at) > 0;
+        at = search::byte_search(table, text, at + 1);
     }
+    Err(Unterminated { multi })
 }
 
 // The end of the hashbang line whose `#!` stands before `from`.

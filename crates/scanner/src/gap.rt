@@ -1,17 +1,18 @@
 // The gap before a token: where it ends, and what of it is new.
-ghost use Rattle.std.specs.Prelude.{◌≡◌, ℕ, ◌+◌, ◌^◌, ◌<◌, ◌≤◌, Bool, true, false, ◌||◌, length, if◌then◌else◌, Decides};
+ghost use Rattle.std.specs.Prelude.{◌≡◌, ◌^◌, ◌<◌, length, if◌then◌else◌, Decides};
 ghost use Rattle.std.specs.Str.{IsCharBoundary};
 ghost use Rattle.std.specs.List.{AllByRecursion};
 ghost use Rattle.source.specs.View.{text_of, place_of};
 ghost use Rattle.scanner.specs.Ecma.{LineTerminatorIn, Gap, GapIs, CutOut};
-ghost use Rattle.scanner.specs.Gaps.{comment_shape, irregular_shape, newline_in, after, gap_from, measured, counted, unended};
+ghost use Rattle.scanner.specs.Gaps.{after, gap_from, measured, counted, unended};
 ghost use Rattle.scanner.specs.View.{shape_of};
 
-use crate::piece::{Piece, Scan, Trivia, piece_at};
+use crate::comment::Unterminated;
+use crate::piece::{Piece, piece_at};
 use source::source::Source;
 
 // What stands from the place of a source up to the next token.
-#[derive(Clone, Copy)]
+#[derive(Clone, Copy, PartialEq, Eq, Debug, Default)]
 pub struct GapMeasure {
     pub end: usize,
     // How many of its comments and irregular spaces are new.
@@ -22,101 +23,44 @@ pub struct GapMeasure {
     pub unterminated: bool,
 }
 
-// Whether a line terminator stands in a piece; a line comment swallows the one that ends it.
-fn has_newline(piece: &Piece<'_>) -> bool
-    ensures { result ≡ newline_in piece.now.start piece.now.end (shape_of piece.now.trivia) }
-{
-    match piece.trivia {
-        Trivia::Whitespace => false,
-        Trivia::IrregularWhitespace => false,
-        Trivia::LineBreak => true,
-        Trivia::IrregularLineBreak => true,
-        Trivia::SingleLineBlock(_) => false,
-        Trivia::MultiLineBlock(_) => true,
-        Trivia::LineComment(comment) => comment.len() < piece.end.saturating_sub(piece.start),
-    }
-}
-
-fn is_comment(piece: &Piece<'_>) -> bool
-    ensures { result ≡ comment_shape (shape_of piece.now.trivia) }
-{
-    match piece.trivia {
-        Trivia::Whitespace => false,
-        Trivia::IrregularWhitespace => false,
-        Trivia::LineBreak => false,
-        Trivia::IrregularLineBreak => false,
-        Trivia::SingleLineBlock(_) => true,
-        Trivia::MultiLineBlock(_) => true,
-        Trivia::LineComment(_) => true,
-    }
-}
-
-fn is_irregular(piece: &Piece<'_>) -> bool
-    ensures { result ≡ irregular_shape (shape_of piece.now.trivia) }
-{
-    match piece.trivia {
-        Trivia::Whitespace => false,
-        Trivia::IrregularWhitespace => true,
-        Trivia::LineBreak => false,
-        Trivia::IrregularLineBreak => true,
-        Trivia::SingleLineBlock(_) => false,
-        Trivia::MultiLineBlock(_) => false,
-        Trivia::LineComment(_) => false,
-    }
-}
-
 // Whether a start lies after another, if there is one.
 fn is_after(last: Option<usize>, start: usize) -> bool
     ensures { result ≡ after last start }
 {
-    match last {
-        None => true,
-        Some(last) => last < start,
+    last.is_none_or(|last| last < start)
+}
+
+impl GapMeasure {
+    // The gap with one piece more.
+    fn with_piece(
+        self,
+        piece: &Piece<'_>,
+        last_comment: Option<usize>,
+        last_space: Option<usize>,
+    ) -> Self
+        requires { (self.comments < 2 ^ 32) × (self.spaces < 2 ^ 32) }
+        ensures { result ≡ counted last_comment last_space self piece.now.start piece.now.end (shape_of piece.now.trivia) }
+    {
+        let new_comment = piece.trivia.is_comment() && is_after(last_comment, piece.start);
+        let new_space = piece.trivia.is_irregular() && is_after(last_space, piece.start);
+        GapMeasure {
+            end: piece.end,
+            comments: self.comments + usize::from(new_comment),
+            spaces: self.spaces + usize::from(new_space),
+            newline: self.newline || piece.has_newline(),
+            unterminated: false,
+        }
     }
-}
 
-fn one_more(count: usize, more: bool) -> usize
-    requires { count < 2 ^ 32 }
-    ensures { result ≡ count + (if more then 1 else 0) }
-{
-    if more { count + 1 } else { count }
-}
-
-// The gap with one piece more.
-fn count_piece(
-    gap: GapMeasure,
-    piece: &Piece<'_>,
-    last_comment: Option<usize>,
-    last_space: Option<usize>,
-) -> GapMeasure
-    requires { (gap.comments < 2 ^ 32) × (gap.spaces < 2 ^ 32) }
-    ensures { result ≡ counted last_comment last_space gap piece.now.start piece.now.end (shape_of piece.now.trivia) }
-{
-    GapMeasure {
-        end: piece.end,
-        comments: one_more(
-            gap.comments,
-            is_comment(piece) && is_after(last_comment, piece.start),
-        ),
-        spaces: one_more(
-            gap.spaces,
-            is_irregular(piece) && is_after(last_space, piece.start),
-        ),
-        newline: gap.newline || has_newline(piece),
-        unterminated: false,
-    }
-}
-
-// The gap before a block without an end.
-fn end_openly(gap: GapMeasure, multi: bool) -> GapMeasure
-    ensures { result ≡ unended gap multi }
-{
-    GapMeasure {
-        end: gap.end,
-        comments: gap.comments,
-        spaces: gap.spaces,
-        newline: gap.newline || multi,
-        unterminated: true,
+    // The gap before a block without an end.
+    fn before_open(self, block: Unterminated) -> Self
+        ensures { result ≡ unended self block.multi }
+    {
+        GapMeasure {
+            newline: self.newline || block.multi,
+            unterminated: true,
+            ..self
+        }
     }
 }
 
@@ -136,19 +80,16 @@ pub fn measure_gap(
     let mut ahead = *source;
     let mut gap = GapMeasure {
         end: ahead.offset_usize(),
-        comments: 0,
-        spaces: 0,
-        newline: false,
-        unterminated: false,
+        ..GapMeasure::default()
     };
     loop {
         match piece_at(&ahead) {
-            Scan::Nothing => return gap,
-            Scan::Unterminated(multi) => return end_openly(gap, multi),
-            Scan::Found(piece) => {
-                gap = count_piece(gap, &piece, last_comment, last_space);
+            Ok(Some(piece)) => {
+                gap = gap.with_piece(&piece, last_comment, last_space);
                 ahead.set_position(piece.end);
             }
+            Ok(None) => return gap,
+            Err(block) => return gap.before_open(block),
         }
     }
 }

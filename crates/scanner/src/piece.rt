@@ -1,20 +1,21 @@
 // The pieces that stand between tokens.
-ghost use Rattle.std.specs.Prelude.{◌≡◌, ◌+◌, ◌<◌, ◌≤◌, false, ◌||◌, length, drop, Some, ◌==◌, slice_index};
-ghost use Rattle.std.specs.Str.{IsCharBoundary};
-ghost use Rattle.source.specs.Unicode.{Spelt};
+ghost use Rattle.std.specs.Prelude.{◌≡◌, ◌+◌, ◌≤◌, false, length, drop, Ok, slice_index};
 ghost use Rattle.source.specs.View.{text_of, place_of};
 ghost use Rattle.scanner.specs.Ecma.{block, Standing, Stands};
-ghost use Rattle.scanner.specs.Pieces.{piece_at, piece_from, white_from, comment_from, line_from, block_piece, Lands};
-ghost use Rattle.scanner.specs.View.{shape_of, standing_of};
+ghost use Rattle.scanner.specs.Pieces.{piece_at, white_from, comment_from, line_from, block_piece, Lands};
+ghost use Rattle.scanner.specs.Gaps.{comment_shape, irregular_shape, newline_in};
+ghost use Rattle.scanner.specs.View.{shape_of, piece_of, ending_of, standing_of};
 ghost use Rattle.scanner.specs.Ends.{block_from};
 
-use crate::comment::{Block, skip_multi_line_comment, skip_single_line_comment, terminator_at};
+use crate::comment::{
+    Unterminated, skip_multi_line_comment, skip_single_line_comment, terminator_at,
+};
 use crate::whitespace::line_break_handler;
 use source::source::Source;
 use source::unicode::{CR, LF, is_irregular_line_terminator, is_irregular_whitespace};
 
 // What a piece is; a comment's part of the text goes from its opening to its end.
-#[derive(Clone, Copy)]
+#[derive(Clone, Copy, PartialEq, Eq, Debug)]
 pub enum Trivia<'a> {
     Whitespace,
     LineBreak,
@@ -26,35 +27,60 @@ pub enum Trivia<'a> {
 }
 
 // A piece, where it starts and where the text goes on after it.
-#[derive(Clone, Copy)]
+#[derive(Clone, Copy, PartialEq, Eq, Debug)]
 pub struct Piece<'a> {
     pub start: usize,
     pub end: usize,
     pub trivia: Trivia<'a>,
 }
 
-// What stands at a place: a piece, a block comment without an end (with whether a line terminator stands in it), or none of these.
-#[derive(Clone, Copy)]
-pub enum Scan<'a> {
-    Found(Piece<'a>),
-    Unterminated(bool),
-    Nothing,
+impl Trivia<'_> {
+    pub(crate) fn is_comment(&self) -> bool
+        ensures { result ≡ comment_shape (shape_of self.now) }
+    {
+        matches!(
+            self,
+            Trivia::LineComment(_) | Trivia::SingleLineBlock(_) | Trivia::MultiLineBlock(_)
+        )
+    }
+
+    // Whether it is recorded as an irregular space.
+    pub(crate) fn is_irregular(&self) -> bool
+        ensures { result ≡ irregular_shape (shape_of self.now) }
+    {
+        matches!(
+            self,
+            Trivia::IrregularWhitespace | Trivia::IrregularLineBreak
+        )
+    }
 }
 
-fn line_comment(text: &str, at: usize) -> Scan<'_>
-    requires cut { IsCharBoundary text.now at }
-    requires room { at + 2 ≤ length text.now }
-    ensures value { standing_of result ≡ line_from text.now at }
-    ensures lands { Lands text.now at (standing_of result) }
+impl Piece<'_> {
+    // Whether a line terminator stands in it; a line comment swallows the one that ends it.
+    pub(crate) fn has_newline(&self) -> bool
+        ensures { result ≡ newline_in self.now.start self.now.end (shape_of self.now.trivia) }
+    {
+        match self.trivia {
+            Trivia::LineBreak | Trivia::IrregularLineBreak | Trivia::MultiLineBlock(_) => true,
+            Trivia::LineComment(comment) => comment.len() < self.end.saturating_sub(self.start),
+            _ => false,
+        }
+    }
+}
+
+fn line_comment<'a>(source: &Source<'a>) -> Piece<'a>
+    requires { place_of source.now + 2 ≤ length (text_of source.now) }
+    ensures { piece_of result ≡ line_from (text_of source.now) (place_of source.now) }
 {
+    let text = source.whole();
+    let start = source.offset_usize();
     let bytes = text.as_bytes();
-    let end = skip_single_line_comment(bytes, at + 2);
-    let after = end + terminator_at(bytes, end);
-    Scan::Found(Piece {
-        start: at,
-        end: after,
-        trivia: Trivia::LineComment(&text[at..end]),
-    })
+    let end = skip_single_line_comment(bytes, start + 2);
+    Piece {
+        start,
+        end: end + terminator_at(bytes, end),
+        trivia: Trivia::LineComment(&text[start..end]),
+    }
 }
 
 fn block_trivia(comment: &str, multi: bool) -> Trivia<'_>
@@ -67,122 +93,59 @@ fn block_trivia(comment: &str, multi: bool) -> Trivia<'_>
     }
 }
 
-fn block_comment(text: &str, at: usize) -> Scan<'_>
-    requires cut { IsCharBoundary text.now at }
-    requires room { at + 2 ≤ length text.now }
-    ensures value { standing_of result ≡ block_piece text.now at (block_from (at + 2) false (drop (at + 2) text.now)) }
-    ensures lands { Lands text.now at (standing_of result) }
+fn block_comment<'a>(source: &Source<'a>) -> Result<Piece<'a>, Unterminated>
+    requires { place_of source.now + 2 ≤ length (text_of source.now) }
+    ensures { ending_of result ≡ block_piece (text_of source.now) (place_of source.now) (block_from (place_of source.now + 2) false (drop (place_of source.now + 2) (text_of source.now))) }
 {
-    match skip_multi_line_comment(text.as_bytes(), at + 2) {
-        Block::Unterminated(multi) => Scan::Unterminated(multi),
-        Block::Ended(end, multi) => {
-            let trivia = block_trivia(&text[at..end], multi);
-            Scan::Found(Piece {
-                start: at,
-                end,
-                trivia,
-            })
-        }
+    let text = source.whole();
+    let start = source.offset_usize();
+    let block = skip_multi_line_comment(text.as_bytes(), start + 2)?;
+    Ok(Piece {
+        start,
+        end: block.end,
+        trivia: block_trivia(&text[start..block.end], block.multi),
+    })
+}
+
+// After a `/`: the next byte says which comment, if any.
+fn comment_from<'a>(source: &Source<'a>) -> Result<Option<Piece<'a>>, Unterminated>
+    ensures { standing_of result ≡ comment_from (text_of source.now) (place_of source.now) (slice_index (text_of source.now) (place_of source.now + 1)) }
+{
+    match source.whole().as_bytes().get(source.offset_usize() + 1) {
+        Some(b'/') => Ok(Some(line_comment(source))),
+        Some(b'*') => Ok(Some(block_comment(source)?)),
+        _ => Ok(None),
     }
 }
 
-fn comment_from(text: &str, at: usize) -> Scan<'_>
-    requires cut { IsCharBoundary text.now at }
-    requires within { at < length text.now }
-    ensures value { standing_of result ≡ comment_from text.now at (slice_index text.now (at + 1)) }
-    ensures lands { Lands text.now at (standing_of result) }
+// White space, line breaks and irregular spaces, by the character at the place.
+fn white_from<'a>(source: &Source<'a>, c: char) -> Option<Piece<'a>>
+    ensures { standing_of (Ok result) ≡ white_from (text_of source.now) (place_of source.now) c }
 {
-    let bytes = text.as_bytes();
-    if bytes.len() - at < 2 {
-        return Scan::Nothing;
-    }
-    let next = bytes[at + 1];
-    if next == b'/' {
-        return line_comment(text, at);
-    }
-    if next == b'*' {
-        return block_comment(text, at);
-    }
-    Scan::Nothing
+    let start = source.offset_usize();
+    let (end, trivia) = match c {
+        ' ' | '\t' => (start + 1, Trivia::Whitespace),
+        LF | CR => (
+            line_break_handler(source.whole().as_bytes(), start + 1),
+            Trivia::LineBreak,
+        ),
+        c if is_irregular_whitespace(c) => (start + c.len_utf8(), Trivia::IrregularWhitespace),
+        c if is_irregular_line_terminator(c) => (start + c.len_utf8(), Trivia::IrregularLineBreak),
+        _ => return None,
+    };
+    Some(Piece { start, end, trivia })
 }
 
-fn is_regular_whitespace(c: char) -> bool
-    ensures { result ≡ (c == 0x20 || c == 0x9) }
-{
-    c == ' ' || c == '\t'
-}
-
-fn is_regular_line_break(c: char) -> bool
-    ensures { result ≡ (c == 0xA || c == 0xD) }
-{
-    c == LF || c == CR
-}
-
-// White space, line breaks and irregular spaces.
-fn white_from(text: &str, at: usize, c: char) -> Scan<'_>
-    requires cut { IsCharBoundary text.now at }
-    requires spelt { Spelt text.now at (Some c) }
-    ensures value { standing_of result ≡ white_from text.now at c }
-    ensures lands { Lands text.now at (standing_of result) }
-{
-    if is_regular_whitespace(c) {
-        return Scan::Found(Piece {
-            start: at,
-            end: at + 1,
-            trivia: Trivia::Whitespace,
-        });
-    }
-    if is_regular_line_break(c) {
-        let end = line_break_handler(text.as_bytes(), at + 1);
-        return Scan::Found(Piece {
-            start: at,
-            end,
-            trivia: Trivia::LineBreak,
-        });
-    }
-    if is_irregular_whitespace(c) {
-        return Scan::Found(Piece {
-            start: at,
-            end: at + c.len_utf8(),
-            trivia: Trivia::IrregularWhitespace,
-        });
-    }
-    if is_irregular_line_terminator(c) {
-        return Scan::Found(Piece {
-            start: at,
-            end: at + c.len_utf8(),
-            trivia: Trivia::IrregularLineBreak,
-        });
-    }
-    Scan::Nothing
-}
-
-// By the character at a place.
-fn piece_from(text: &str, at: usize, c: char) -> Scan<'_>
-    requires cut { IsCharBoundary text.now at }
-    requires within { at < length text.now }
-    requires spelt { Spelt text.now at (Some c) }
-    ensures value { standing_of result ≡ piece_from text.now at c }
-    ensures lands { Lands text.now at (standing_of result) }
-{
-    if c == '/' {
-        comment_from(text, at)
-    } else {
-        white_from(text, at, c)
-    }
-}
-
-// What stands at the source's place.
-pub fn piece_at<'a>(source: &Source<'a>) -> Scan<'a>
+// What stands at the source's place: a piece, a block comment without an end, or none of these.
+pub fn piece_at<'a>(source: &Source<'a>) -> Result<Option<Piece<'a>>, Unterminated>
     ensures value { standing_of result ≡ piece_at (text_of source.now) (place_of source.now) }
     ensures stands { Stands (text_of source.now) (place_of source.now) (standing_of result) }
     ensures only { (s : Standing) → Stands (text_of source.now) (place_of source.now) s → s ≡ standing_of result }
     ensures lands { Lands (text_of source.now) (place_of source.now) (standing_of result) }
 {
-    let text = source.whole();
-    let at = source.offset_usize();
     match source.peek_char() {
-        None => Scan::Nothing,
-        Some(c) => piece_from(text, at, c),
+        None => Ok(None),
+        Some('/') => comment_from(source),
+        Some(c) => Ok(white_from(source, c)),
     }
 }

@@ -1,38 +1,34 @@
-use Rattle.std.proofs.Common.{◌≡◌, ℕ, ◌+◌, ◌-◌, Bool, false, ◌||◌, ltb, get_or, drop, sym, refl, ap, ◌∙◌, arith}
-use Rattle.scanner.specs.declared.comment.Block.TheVariants.{Ended, Unterminated}
-use Rattle.scanner.specs.Ends.{terminator, block_from}
+use Rattle.std.proofs.Common.{◌≡◌, ℕ, ◌+◌, ◌-◌, Bool, false, ◌||◌, ltb, get_or, drop, sym, ap, ◌∙◌, arith}
+use Rattle.scanner.specs.Ends.{block_from}
 use Rattle.scanner.proofs.BlockLaws.{block_is_law, block_is_only}
-use Rattle.scanner.proofs.Lines.{block_search, block_end, block_close, block_on, term-drop, flag, close_within, get_or-within}
-use Rattle.scanner.proofs.comment.skip_multi_line_comment.Goals.{then-terminator_at-gt0, else-terminator_at-gt0}
+use Rattle.scanner.proofs.Lines.{ended, unended, block_search, block_end, block_close, block_on, term-drop, shut_at, close_within, get_or-within}
 use Rattle.scanner.proofs.comment.skip_multi_line_comment.Goals as goal
 
-pub loop-i-init : goal.loop-i-init
-loop-i-init c = (omega arith, refl)
+pub loop-at-init : goal.loop-at-init
+loop-at-init c =
+    let go = block_search c.args.text.now c.multiline_comment_start_table-table.result.now.0 c.args.from c.byte_search-at.result false c.multiline_comment_start_table-table.ensures (λ k. (c.type_inv.text k).fits) c.byte_search-at.ensures.value in
+    (c.byte_search-at.ensures.low, sym go)
 
-pub returns-then-i-text : goal.returns-then-i-text
-returns-then-i-text c =
-    let go = block_search c.args.text.now c.multiline_comment_start_table-table.result.now.0 c.loop-i.i c.byte_search-i.result c.loop-i.multi c.multiline_comment_start_table-table.ensures (λ k. (c.type_inv.text k).fits) c.byte_search-i.ensures.value in
-    let is : Unterminated c.loop-i.multi ≡ block_from c.args.from false (drop c.args.from c.args.text.now) = sym (block_end c.args.text.now c.byte_search-i.result c.loop-i.multi (omega arith)) ∙ sym go ∙ c.loop-i.invariant.1 in
-    record { value = is; block = block_is_law c.args.text.now c.args.from _ is; only = block_is_only c.args.text.now c.args.from _ is; within = tt }
+pub loop-at-preserved : goal.loop-at-preserved
+loop-at-preserved c =
+    let at : ℕ = c.loop-at.at in
+    let multi : Bool = c.loop-at.multi || ltb 0 c.terminator_at.result in
+    let on = block_on c.args.text.now at c.loop-at.multi (omega arith) (sym (shut_at c.args.text.now at) ∙ sym c.starts_with.ensures.value ∙ c.if-starts_with.false) in
+    let wide = term-drop c.args.text.now at ∙ sym c.terminator_at.ensures.value in
+    let go = block_search c.args.text.now c.multiline_comment_start_table-table.result.now.0 (at + 1) c.byte_search-at-in-loop-at.result multi c.multiline_comment_start_table-table.ensures (λ k. (c.type_inv.text k).fits) c.byte_search-at-in-loop-at.ensures.value in
+    (omega arith, sym go ∙ ap (λ (n : ℕ). block_from (at + 1) (c.loop-at.multi || ltb 0 n) (drop (at + 1) c.args.text.now)) (sym wide) ∙ sym on ∙ c.loop-at.invariant.1)
 
-pub returns-then-closes_at : goal.returns-then-closes_at
-returns-then-closes_at c =
-    let go = block_search c.args.text.now c.multiline_comment_start_table-table.result.now.0 c.loop-i.i c.byte_search-i.result c.loop-i.multi c.multiline_comment_start_table-table.ensures (λ k. (c.type_inv.text k).fits) c.byte_search-i.ensures.value in
-    let shut = sym c.closes_at.ensures ∙ c.if-closes_at.true in
-    let slash = close_within c.args.text.now c.byte_search-i.result shut in
-    let last : c.byte_search-i.result + 2 - 1 ≡ c.byte_search-i.result + 1 = omega arith in
-    let in-text = get_or-within c.args.text.now (c.byte_search-i.result + 1) (omega (arith, slash)) in
-    let is : Ended (c.byte_search-i.result + 2) c.loop-i.multi ≡ block_from c.args.from false (drop c.args.from c.args.text.now) = sym (block_close c.args.text.now c.byte_search-i.result c.loop-i.multi (omega arith) shut) ∙ sym go ∙ c.loop-i.invariant.1 in
+pub returns-then-starts_with : goal.returns-then-starts_with
+returns-then-starts_with c =
+    let at : ℕ = c.loop-at.at in
+    let shut = sym (shut_at c.args.text.now at) ∙ sym c.starts_with.ensures.value ∙ c.if-starts_with.true in
+    let slash = close_within c.args.text.now at shut in
+    let last : at + 2 - 1 ≡ at + 1 = omega arith in
+    let in-text = get_or-within c.args.text.now (at + 1) (omega (arith, slash)) in
+    let is : ended (at + 2) c.loop-at.multi ≡ block_from c.args.from false (drop c.args.from c.args.text.now) = sym (block_close c.args.text.now at c.loop-at.multi (omega arith) shut) ∙ c.loop-at.invariant.1 in
     record { value = is; block = block_is_law c.args.text.now c.args.from _ is; only = block_is_only c.args.text.now c.args.from _ is; within = (omega arith, omega (arith, in-text), ap (λ (k : ℕ). get_or c.args.text.now k 0) last ∙ slash) }
 
-pub loop-i-preserved : goal.loop-i-preserved
-loop-i-preserved c =
-    let go = block_search c.args.text.now c.multiline_comment_start_table-table.result.now.0 c.loop-i.i c.byte_search-i.result c.loop-i.multi c.multiline_comment_start_table-table.ensures (λ k. (c.type_inv.text k).fits) c.byte_search-i.ensures.value in
-    let on = block_on c.args.text.now c.byte_search-i.result c.loop-i.multi (omega arith) (sym c.closes_at.ensures ∙ c.if-closes_at.false) in
-    let is = term-drop c.args.text.now c.byte_search-i.result ∙ sym c.terminator_at.ensures.value in
-    let f : (c.loop-i.multi || ltb 0 (terminator (drop c.byte_search-i.result c.args.text.now))) ≡ c.if-terminator_at-gt0.multi =
-    elim c.if-terminator_at-gt0.branch [
-      | then-terminator_at-gt0 w ↦ flag c.loop-i.multi c.if-terminator_at-gt0.multi (terminator (drop c.byte_search-i.result c.args.text.now)) (λ _. w.multi-is) (λ z. absurd (omega (arith, z, is, w.if-terminator_at-gt0.true)))
-      | else-terminator_at-gt0 w ↦ flag c.loop-i.multi c.if-terminator_at-gt0.multi (terminator (drop c.byte_search-i.result c.args.text.now)) (λ z. absurd (omega (arith, z, is, w.if-terminator_at-gt0.false))) (λ _. w.multi-is)
-    ] in
-    (omega arith, ap (λ (m : Bool). block_from (c.byte_search-i.result + 1) m (drop (c.byte_search-i.result + 1) c.args.text.now)) (sym f) ∙ sym on ∙ sym go ∙ c.loop-i.invariant.1)
+pub returns : goal.returns
+returns c =
+    let is : unended c.loop-at.multi ≡ block_from c.args.from false (drop c.args.from c.args.text.now) = sym (block_end c.args.text.now c.loop-at.at c.loop-at.multi (omega arith)) ∙ c.loop-at.invariant.1 in
+    record { value = is; block = block_is_law c.args.text.now c.args.from _ is; only = block_is_only c.args.text.now c.args.from _ is; within = tt }

@@ -4,8 +4,8 @@ use Rattle.source.specs.View.{text_of, place_of}
 use Rattle.scanner.proofs.Measures.{Going}
 use Rattle.scanner.proofs.gap.measure_gap.Given as goal
 
-abbrev pub invariant-loop-gap : goal.invariant-loop-gap
-invariant-loop-gap l = (l.ahead.text ≡ l.source.text) × (l.gap.end ≡ place_of l.ahead) × Going l.last_comment l.last_space (text_of l.source) (place_of l.source) l.gap
+abbrev pub invariant-loop-piece : goal.invariant-loop-piece
+invariant-loop-piece l = (l.ahead.text ≡ l.source.text) × (l.gap.end ≡ place_of l.ahead) × Going l.last_comment l.last_space (text_of l.source) (place_of l.source) l.gap
 
-abbrev pub decreases-loop-gap : goal.decreases-loop-gap
-decreases-loop-gap l = length (text_of l.source) - place_of l.ahead
+abbrev pub decreases-loop-piece : goal.decreases-loop-piece
+decreases-loop-piece l = length (text_of l.source) - place_of l.ahead

@@ -1,22 +1,18 @@
-use Rattle.std.proofs.Common.{◌≡◌, ℕ, ◌+◌, false, List, drop, ap, ◌∙◌, subst, arith, rules}
-use Rattle.scanner.specs.declared.comment.Block.TheVariants.{Ended}
-use Rattle.scanner.specs.Ends.{block_from, BlockWithin}
-use Rattle.scanner.specs.View.{shape_of}
-use Rattle.scanner.proofs.Comments.{block_cut, block_value}
+use Rattle.std.proofs.Common.{◌≡◌, ℕ, ◌+◌, ◌-◌, List, Ok, IsUtf8, subst, arith}
+use Rattle.std.specs.Str.{IsCharBoundary}
+use Rattle.std.proofs.lemmas.Str.{IsCharBoundary-after_ascii}
+use Rattle.scanner.specs.declared.comment.Block.{Block}
+use Rattle.scanner.specs.Ends.{BlockWithin}
 use Rattle.scanner.proofs.piece.block_comment.Goals as goal
-use Rattle.scanner.proofs.piece.block_comment.Goals.{In-Ended}
 
-within : (c : goal.In-Ended) → BlockWithin c.args.text.now (c.args.at + 2) (Ended c.in-Ended.end c.in-Ended.multi)
-within c =
-    subst (λ (l : List ℕ). BlockWithin l (c.args.at + 2) (Ended c.in-Ended.end c.in-Ended.multi)) c.as_bytes.ensures.value c.in-Ended.ensures.within
+-- a block ends after a `/`, so the text may be cut there
+block_cut : (from : ℕ) (b : Block) (bs : List ℕ) → IsUtf8 bs → BlockWithin bs from (Ok b) → IsCharBoundary bs b.end
+block_cut from b bs u h =
+    let after : b.end - 1 + 1 ≡ b.end = omega (arith, h.0) in
+    subst (IsCharBoundary bs) after (IsCharBoundary-after_ascii bs (b.end - 1) u (omega (arith, h.0, h.1)) (omega (arith, h.2)))
 
-pub range-requires : goal.range-requires
-range-requires c =
-    let h = within c in
-    record { start_le_end = omega (arith, h.0); start_boundary = λ _. c.requires.cut; end_boundary = block_cut c.args.at c.in-Ended.end c.in-Ended.multi c.args.text.now (search rules) h }
-
-pub returns-in-Ended : goal.returns-in-Ended
-returns-in-Ended c =
-    let h = within (goal.at.returns-in-Ended c).In-Ended in
-    let is : Ended c.in-Ended.end c.in-Ended.multi ≡ block_from (c.args.at + 2) false (drop (c.args.at + 2) c.args.text.now) = c.in-Ended.ensures.value ∙ ap (λ (l : List ℕ). block_from (c.args.at + 2) false (drop (c.args.at + 2) l)) c.as_bytes.ensures.value in
-    record { value = block_value c.args.at c.in-Ended.end c.in-Ended.multi c.args.text.now (shape_of c.block_trivia-trivia.result) c.range.result.now is c.block_trivia-trivia.ensures c.range.ensures.value; lands = (omega (arith, h.0), block_cut c.args.at c.in-Ended.end c.in-Ended.multi c.args.text.now (search rules) h) }
+pub range-requires-clause-end_boundary : goal.range-requires-clause-end_boundary
+range-requires-clause-end_boundary c =
+    let from : ℕ = c.offset_usize-start.result + 2 in
+    let Within : List ℕ → Type 0 = λ l. BlockWithin l from (Ok c.in_ok-block.block) in
+    block_cut from c.in_ok-block.block c.whole-text.result.now c.whole-text.utf8 (subst Within c.as_bytes.ensures.value c.in_ok-block.ensures.within)

@@ -1,34 +1,47 @@
-use Rattle.std.proofs.Common.{◌≡◌, ℕ, leb, List, length, drop, IsUtf8, ap, ◌∙◌, subst, Bor, rules}
+use Rattle.std.proofs.Common.{◌≡◌, ℕ, Bool, true, false, cond, eqb, leb, List, length, drop, Some, None, Ok, IsUtf8, sym, ap, ◌∙◌, rules}
 use Rattle.std.specs.Str.{IsCharBoundary}
+use Rattle.std.proofs.lemmas.Bool.{cond-false, ne_eqb}
 use Rattle.source.specs.Unicode.{first_char}
 use Rattle.source.specs.View.{text_of, place_of}
-use Rattle.scanner.specs.Ecma.{nothing}
-use Rattle.scanner.specs.Pieces.{piece_at, piece_from, Lands}
+use Rattle.scanner.specs.Ecma.{Standing, Stands, nothing}
+use Rattle.scanner.specs.Pieces.{piece_at, piece_from, white_from, Lands}
 use Rattle.scanner.specs.View.{standing_of}
 use Rattle.scanner.proofs.PieceLaws.{standing_is, standing_only}
-use Rattle.scanner.proofs.Spaces.{told}
+use Rattle.scanner.proofs.GapLaws.{stands_lands}
 use Rattle.scanner.proofs.piece.piece_at.Goals as goal
+
+-- the character at a place decides what stands there
+told : {Y : Type 0} (B : Bool) (c d : ℕ) (n : Y) (f : ℕ → Y) (x : Y) → Some c ≡ cond B None (Some d) → x ≡ f c → x ≡ cond B n (f d)
+told true c d n f x e h = cc
+told false c d n f x e h = let same : c ≡ d = cc in h ∙ ap f same
+
+-- what is promised of an answer that was computed
+record Promised (text : List ℕ) (at : ℕ) (s : Standing) : Type 0 where
+  value : s ≡ piece_at text at
+  stands : Stands text at s
+  only : (o : Standing) → Stands text at o → o ≡ s
+  lands : Lands text at s
+
+promised : (text : List ℕ) (at : ℕ) → IsUtf8 text → IsCharBoundary text at → (s : Standing) → s ≡ piece_at text at → Promised text at s
+promised text at u cut s is =
+    let stands : Stands text at s = standing_is text at u cut s is in
+    record { value = is; stands = stands; only = standing_only text at u cut s is; lands = stands_lands text u at s cut stands }
+
+pub returns-in-None : goal.returns-in-None
+returns-in-None c =
+    let p = promised (text_of c.args.source.now) (place_of c.args.source.now) c.peek_char.ensures.utf8 c.args.source.now.cut nothing (search rules) in
+    record { value = p.value; stands = p.stands; only = p.only; lands = p.lands }
+
+pub returns-in-Some-eq47 : goal.returns-in-Some-eq47
+returns-in-Some-eq47 c =
+    let p = promised (text_of c.args.source.now) (place_of c.args.source.now) c.peek_char.ensures.utf8 c.args.source.now.cut (standing_of c.comment_from.result) (search rules) in
+    record { value = p.value; stands = p.stands; only = p.only; lands = p.lands }
 
 pub returns-in-Some : goal.returns-in-Some
 returns-in-Some c =
     let text : List ℕ = text_of c.args.source.now in
     let at : ℕ = place_of c.args.source.now in
-    let same : c.whole-text.result.now ≡ text = ap (λ (r : Bor (List ℕ)). r.now) c.whole-text.ensures in
-    let here : c.offset_usize-at.result ≡ at = c.offset_usize-at.ensures.value in
-    let u : IsUtf8 text = subst IsUtf8 same c.whole-text.utf8 in
-    let cut : IsCharBoundary text at = subst (IsCharBoundary text) here c.offset_usize-at.ensures.cut in
-    let value : standing_of c.piece_from.result ≡ piece_from text at c.in-Some.c = c.piece_from.ensures.value ∙ ap (λ (l : List ℕ). piece_from l c.offset_usize-at.result c.in-Some.c) same ∙ ap (λ (k : ℕ). piece_from text k c.in-Some.c) here in
-    let Land : List ℕ → Type 0 = λ l. Lands l c.offset_usize-at.result (standing_of c.piece_from.result) in
-    let Here : ℕ → Type 0 = λ k. Lands text k (standing_of c.piece_from.result) in
-    let is = told (leb (length text) at) c.in-Some.c (first_char (drop at text)) nothing (piece_from text at) (standing_of c.piece_from.result) c.in-Some.ensures.value value in
-    record { value = is; stands = standing_is text at u cut (standing_of c.piece_from.result) is; only = standing_only text at u cut (standing_of c.piece_from.result) is; lands = subst Here here (subst Land same c.piece_from.ensures.lands) }
-
-pub returns-in-None : goal.returns-in-None
-returns-in-None c =
-    let text : List ℕ = text_of c.args.source.now in
-    let at : ℕ = place_of c.args.source.now in
-    let same : c.whole-text.result.now ≡ text = ap (λ (r : Bor (List ℕ)). r.now) c.whole-text.ensures in
-    let u : IsUtf8 text = subst IsUtf8 same c.whole-text.utf8 in
-    let cut : IsCharBoundary text at = subst (IsCharBoundary text) c.offset_usize-at.ensures.value c.offset_usize-at.ensures.cut in
-    let is : nothing ≡ piece_at text at = search rules in
-    record { value = is; stands = standing_is text at u cut nothing is; only = standing_only text at u cut nothing is; lands = search rules }
+    let s : Standing = standing_of (Ok c.white_from.result) in
+    let from : s ≡ piece_from text at c.in-Some.c = c.white_from.ensures ∙ sym (cond-false (eqb c.in-Some.c 47) _ (white_from text at c.in-Some.c) (ne_eqb c.in-Some.c 47 c.in-Some.c-test.1)) in
+    let p = promised text at c.peek_char.ensures.utf8 c.args.source.now.cut s (told (leb (length text) at) c.in-Some.c (first_char (drop at text)) nothing (piece_from text at) s c.in-Some.ensures.value from) in
+    record { value = p.value; stands = p.stands; only = p.only; lands = p.lands }
