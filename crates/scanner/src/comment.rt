@@ -41,6 +41,7 @@ pub fn terminator_at(text: &[u8], at: usize) -> usize
 }
 
 // The end of the line that goes on at `from`: the first line terminator, or the end of the text; a place past the end is the answer itself.
+// The search is stepped here and for a block: an iterator over its matches would be one more type with laws, for two short loops.
 pub fn skip_single_line_comment(text: &[u8], from: usize) -> usize
     ensures end { result ≡ from + line_end (drop from text.now) }
     ensures line { from ≤ length text.now → LineEnds text.now from result }
@@ -76,7 +77,7 @@ pub fn skip_multi_line_comment(text: &[u8], from: usize) -> Result<Block, Unterm
     Err(Unterminated { multi })
 }
 
-// The end of the hashbang line whose `#!` stands before `from`.
+// The end of the hashbang line whose `#!` stands before `from`. It ends as a line comment does, and has its own name in oxc.
 pub fn read_hashbang_comment(text: &[u8], from: usize) -> usize
     ensures end { result ≡ from + line_end (drop from text.now) }
     ensures line { from ≤ length text.now → LineEnds text.now from result }

@@ -4,6 +4,7 @@ ghost use Rattle.std.specs.List.{range_with_len, prefix_len, position};
 ghost use Rattle.source.specs.Search.{begins_line_break, begins_multiline_stop, ends_regular_whitespace, hits, misses};
 
 // Which bytes a search stops at, one entry for each byte.
+#[derive(PartialEq, Eq, Debug)]
 pub struct SafeByteMatchTable([bool; 256]);
 
 // The first bytes of the line terminators: CR, LF, and 0xE2 of U+2028 and U+2029.
@@ -75,6 +76,7 @@ static NOT_REGULAR_WHITESPACE_OR_LINE_BREAK_TABLE: SafeByteMatchTable = SafeByte
     true, true,
 ]);
 
+// Each table has a function that lends it, since a promise of what it holds stands on a function.
 pub fn line_break_table() -> &'static SafeByteMatchTable
     ensures { result.now.0 ≡ map begins_line_break (range_with_len 0 256) }
 {

@@ -13,7 +13,7 @@ pub loop-piece-init : goal.loop-piece-init
 loop-piece-init c =
     let Goes : GapMeasure → Type 0 = Going c.args.last_comment c.args.last_space (text_of c.args.source.now) (place_of c.args.source.now) in
     let e : record { end = c.offset_usize.result; comments = c.default.result.comments; spaces = c.default.result.spaces; newline = c.default.result.newline; unterminated = c.default.result.unterminated } ≡ empty_measure (place_of c.args.source.now) = search rules in
-    (refl, c.offset_usize.ensures.value, subst Goes (sym e) (going_start _ _ _ _))
+    record { same = refl; reached = c.offset_usize.ensures.value; going = subst Goes (sym e) (going_start _ _ _ _) }
 
 pub loop-piece-preserved : goal.loop-piece-preserved
 loop-piece-preserved c =
@@ -21,18 +21,18 @@ loop-piece-preserved c =
     let start : ℕ = c.in-Ok-Some.piece.start in
     let end : ℕ = c.in-Ok-Some.piece.end in
     let shape : Shape = shape_of c.in-Ok-Some.piece.trivia in
-    let same : text_of c.loop-piece.ahead ≡ text = ap (λ (r : Bor (List ℕ)). r.now) c.loop-piece.invariant.0 in
-    let at : c.loop-piece.gap.end ≡ place_of c.loop-piece.ahead = c.loop-piece.invariant.1 in
+    let same : text_of c.loop-piece.ahead ≡ text = ap (λ (r : Bor (List ℕ)). r.now) c.loop-piece.invariant.same in
+    let at : c.loop-piece.gap.end ≡ place_of c.loop-piece.ahead = c.loop-piece.invariant.reached in
     let answered : standing_of (Ok c.in-Ok-Some.field-0) ≡ piece start end shape = ap (λ o. standing_of (Ok o)) c.in-Ok-Some.field-0-is in
     let stands : piece_at text c.loop-piece.gap.end ≡ piece start end shape = ap (λ (l : List ℕ). piece_at l c.loop-piece.gap.end) (sym same) ∙ ap (piece_at (text_of c.loop-piece.ahead)) at ∙ sym c.in-Ok-Some.ensures.value ∙ answered in
     let lands = subst (Lands (text_of c.loop-piece.ahead) (place_of c.loop-piece.ahead)) answered c.in-Ok-Some.ensures.lands in
     let goes : place_of c.set_position.new.self ≡ end = moves c.set_position.result _ _ _ _ c.set_position.ensures.place lands.1 in
     let long : length (text_of c.loop-piece.ahead) ≡ length text = ap length same in
-    let Goes : GapMeasure → Type 0 = Going c.args.last_comment c.args.last_space text (place_of c.args.source.now) in (
-      c.set_position.ensures.text ∙ c.loop-piece.invariant.0,
-      ap (λ (g : GapMeasure). g.end) c.with_piece-gap.ensures ∙ sym goes,
-      subst Goes (sym c.with_piece-gap.ensures) (going_more c.args.last_comment c.args.last_space text _ c.loop-piece.gap start end shape stands (omega (arith, at, lands.0)) (omega (arith, long, lands.1.0)) c.loop-piece.invariant.2),
-    )
+    let Goes : GapMeasure → Type 0 = Going c.args.last_comment c.args.last_space text (place_of c.args.source.now) in record {
+      same = c.set_position.ensures.text ∙ c.loop-piece.invariant.same;
+      reached = ap (λ (g : GapMeasure). g.end) c.with_piece-gap.ensures ∙ sym goes;
+      going = subst Goes (sym c.with_piece-gap.ensures) (going_more c.args.last_comment c.args.last_space text _ c.loop-piece.gap start end shape stands (omega (arith, at, lands.0)) (omega (arith, long, lands.1.0)) c.loop-piece.invariant.going);
+    }
 
 pub returns-in-Ok-None : goal.returns-in-Ok-None
 returns-in-Ok-None c =

@@ -5,7 +5,11 @@ use Rattle.scanner.proofs.Measures.{Going}
 use Rattle.scanner.proofs.gap.measure_gap.Given as goal
 
 abbrev pub invariant-loop-piece : goal.invariant-loop-piece
-invariant-loop-piece l = (l.ahead.text ≡ l.source.text) × (l.gap.end ≡ place_of l.ahead) × Going l.last_comment l.last_space (text_of l.source) (place_of l.source) l.gap
+invariant-loop-piece l = record {
+  same : l.ahead.text ≡ l.source.text;
+  reached : l.gap.end ≡ place_of l.ahead;
+  going : Going l.last_comment l.last_space (text_of l.source) (place_of l.source) l.gap;
+}
 
 abbrev pub decreases-loop-piece : goal.decreases-loop-piece
 decreases-loop-piece l = length (text_of l.source) - place_of l.ahead
