@@ -1,4 +1,4 @@
-// Comment rows changed in place, by index.
+// Comment rows changed in place.
 ghost use Rattle.std.specs.Prelude.{◌≡◌, ◌≤◌, length};
 ghost use Rattle.table.specs.View.{rows_of, count_of, kept_of};
 ghost use Rattle.builder.specs.Rows.{may_go_back, attached_row, over, last_followed, last_stays};
@@ -43,13 +43,14 @@ impl Attachment {
     }
 }
 
-// Attaches the rows from one index to another.
+// Attaches the rows from one index to another, of which the first may be the larger: then there are none.
 pub(crate) fn attach_pending_comments(rows: &mut [Comment], from: usize, to: usize, how: Attachment)
     requires { to ≤ length rows.old }
     ensures { rows.new ≡ over (attached_row how) from to rows.old }
 {
-    for i in from..to {
-        rows[i] = how.attach(rows[i]);
+    let from = from.min(to);
+    for row in &mut rows[from..to] {
+        *row = how.attach(*row);
     }
 }
 

@@ -257,9 +257,8 @@ impl TriviaBuilder {
         ensures handed { Handed text.now (state_of self.old comments.old) start end kind result (state_of self.new comments.new) }
         ensures lender { comments.new.rows.ghost_name ≡ comments.old.rows.ghost_name }
     {
-        let content = content_of(text, start as usize, end as usize, kind).ok_or(
-            Refusal::BadComment,
-        )?;
+        let (from, to) = (start as usize, end as usize);
+        let content = content_of(text, from, to, kind).ok_or(Refusal::BadComment)?;
         let row = self.new_row(start, end, kind, parse_annotation(kind, content));
         self.insert(comments, row)
             .map_err(|_| Refusal::CommentsFull)?;
