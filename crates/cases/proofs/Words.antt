@@ -1,5 +1,6 @@
 -- A line that is cut at its first byte c.
 use Rattle.std.proofs.Common.{◌≡◌, ℕ, suc, ◌<◌, true, false, cond, ◌||◌, List, [], ◌∷◌, ◌++◌, length, get_or, Some, None, Option, sym, refl, ap, ◌∙◌, subst, arith, Bor, MatchOption}
+use Rattle.std.specs.Option.{unwrap_or}
 use Rattle.std.proofs.lemmas.Bool.{ne_eqb, eq-eqb}
 use Rattle.std.proofs.lemmas.Str.Pattern.{IsSplitOnceResult, split_parts}
 use Rattle.cases.specs.Fields.{word_of, rest_of, has}
@@ -57,3 +58,11 @@ module _ (c : ℕ) where
       by_cases : (r : Option (Bor (List ℕ) × Bor (List ℕ))) → MatchOption r (Lacking c bs) (λ x. (bs ≡ x.0.now ++ (c ∷ x.1.now)) × Lacking c x.0.now) → MatchOption r (Whole c bs) (λ x. Parted c bs x.0.now x.1.now)
       by_cases None l = whole bs l
       by_cases (Some x) p = subst (λ s. Parted c s x.0.now x.1.now) (sym p.0) (parted x.0.now x.1.now p.1)
+
+  -- a cut that leaves the whole as the word where there is none
+  pub cut_or : (bs : List ℕ) (r : Option (Bor (List ℕ) × Bor (List ℕ))) (d : Bor (List ℕ) × Bor (List ℕ)) → IsSplitOnceResult c bs r → c < 128 → d.0.now ≡ bs → d.1.now ≡ [] → ((unwrap_or r d).0.now ≡ word_of c bs) × ((unwrap_or r d).1.now ≡ rest_of c bs)
+  cut_or bs r d h small word rest = by_cases r (cut bs r h small)
+    where
+      by_cases : (r : Option (Bor (List ℕ) × Bor (List ℕ))) → MatchOption r (Whole c bs) (λ x. Parted c bs x.0.now x.1.now) → ((unwrap_or r d).0.now ≡ word_of c bs) × ((unwrap_or r d).1.now ≡ rest_of c bs)
+      by_cases None w = (word ∙ sym w.word, rest ∙ sym w.rest)
+      by_cases (Some x) p = (sym p.word, sym p.rest)

@@ -1,6 +1,11 @@
 -- The fields of a case line, as docs/FORMATS.md has them.
-use Rattle.std.specs.Prelude.{ℕ, zero, suc, ◌+◌, ◌-◌, ◌*◌, Bool, false, cond, ◌&&◌, ◌||◌, List, [], ◌∷◌, ◌++◌, length, Some, None, Option, ◌==◌, nat_le, nat_lt, slice_index}
+use Rattle.std.specs.Prelude.{◌≡◌, ℕ, ◌+◌, ◌-◌, ◌*◌, Bool, false, cond, ◌&&◌, ◌||◌, List, [], ◌∷◌, ◌++◌, length, Some, None, Option, Result, IfOk, IsErrOf, vec_items, ◌==◌, nat_le, nat_lt, slice_index}
+use Rattle.std.specs.List.{repeat, slice_split}
 use Rattle.std.specs.Str.{all_ascii_digits}
+use Rattle.std.specs.Str.Parse.{without_leading_plus}
+use Rattle.std.proofs.Common.{Vec}
+use Rattle.cases.specs.declared.error.CaseError.{CaseError}
+use Rattle.cases.specs.declared.error.CaseError.TheVariants.{Malformed}
 use Rattle.cases.specs.Hex.{some_bytes}
 
 -- a line that is blank or begins with #
@@ -31,18 +36,26 @@ decimal_from n (d ∷ ds) = decimal_from (10 * n + (d - 48)) ds
 abbrev pub times : List ℕ → Option ℕ
 times ds = cond (nat_lt 48 (slice_index ds 0) && (all_ascii_digits ds && nat_le (decimal_from 0 ds) 40000)) (Some (decimal_from 0 ds)) None
 
--- how often a field stands: as often as the number after * says, or once
-abbrev pub times_of : List ℕ → Option ℕ
-times_of field = cond (has 42 field) (times (rest_of 42 field)) (Some 1)
+-- the same, loosely: zeros may stand before it, and before them a plus sign
+abbrev pub loose_times : List ℕ → Option ℕ
+loose_times count =
+    let ds = without_leading_plus count in
+    cond (nat_lt 0 (length ds) && (all_ascii_digits ds && nat_le (decimal_from 0 ds) 40000)) (Some (decimal_from 0 ds)) None
 
--- bytes n times over
-abbrev pub repeated : ℕ → List ℕ → List ℕ
-repeated zero bs = []
-repeated (suc n) bs = bs ++ repeated n bs
+-- how often a field stands: as often as the count after * says, or once
+abbrev pub counted : (List ℕ → Option ℕ) → List ℕ → Option ℕ
+counted count field = cond (has 42 field) (count (rest_of 42 field)) (Some 1)
+
+abbrev pub times_of : List ℕ → Option ℕ
+times_of field = counted times field
+
+-- each call gives what the definition has
+abbrev pub Gives : (List ℕ → Option ℕ → Type 0) → (List ℕ → Option ℕ) → Type 0
+Gives call t = (count : List ℕ) (r : Option ℕ) → call count r → r ≡ t count
 
 -- so many times these bytes, if both are there
 abbrev pub multiplied : Option ℕ → Option (List ℕ) → Option (List ℕ)
-multiplied (Some n) (Some bs) = Some (repeated n bs)
+multiplied (Some n) (Some bs) = Some (repeat n bs)
 multiplied (Some n) None = None
 multiplied None o = None
 
@@ -50,15 +63,13 @@ multiplied None o = None
 abbrev pub field_bytes : List ℕ → Option (List ℕ)
 field_bytes field = multiplied (times_of field) (some_bytes (word_of 42 field))
 
--- a byte put before the first field
-abbrev pub onto : ℕ → List (List ℕ) → List (List ℕ)
-onto b [] = (b ∷ []) ∷ []
-onto b (field ∷ fields) = (b ∷ field) ∷ fields
+-- each call gives the bytes that the definition has, or is malformed where it has none
+abbrev pub Spells : {Z : Type 0} → (List ℕ → Result (Vec ℕ Z) CaseError → Type 0) → (List ℕ → Option (List ℕ)) → Type 0
+Spells call bytes = (field : List ℕ) (r : Result (Vec ℕ _) CaseError) → call field r → IfOk r (λ v. bytes field ≡ Some (vec_items v)) × (IsErrOf r Malformed → bytes field ≡ None)
 
 -- the fields of a line, cut at each space
 abbrev pub fields_of : List ℕ → List (List ℕ)
-fields_of [] = [] ∷ []
-fields_of (b ∷ bs) = cond (b == 32) ([] ∷ fields_of bs) (onto b (fields_of bs))
+fields_of line = slice_split (λ b. b == 32) line
 
 -- bytes and then others, if both are there
 abbrev pub joined : Option (List ℕ) → Option (List ℕ) → Option (List ℕ)
@@ -67,11 +78,11 @@ joined (Some xs) None = None
 joined None o = None
 
 -- the bytes of all the fields in a row, if none is malformed
-abbrev pub gathered : List (List ℕ) → Option (List ℕ)
-gathered [] = Some []
-gathered (field ∷ fields) = joined (field_bytes field) (gathered fields)
+abbrev pub gathered : (List ℕ → Option (List ℕ)) → List (List ℕ) → Option (List ℕ)
+gathered bytes [] = Some []
+gathered bytes (field ∷ fields) = joined (bytes field) (gathered bytes fields)
 
 -- the text of a case; one without a field has the empty text
 abbrev pub text_of : List ℕ → Option (List ℕ)
 text_of [] = Some []
-text_of (b ∷ bs) = gathered (fields_of (b ∷ bs))
+text_of (b ∷ bs) = gathered field_bytes (fields_of (b ∷ bs))

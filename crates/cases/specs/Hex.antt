@@ -1,5 +1,5 @@
 -- Bytes spelt as pairs of hexadecimal digits (RFC 5234, HEXDIG).
-use Rattle.std.specs.Prelude.{◌≡◌, ℕ, ◌+◌, ◌-◌, ◌*◌, Bool, true, false, cond, ◌&&◌, List, [], ◌∷◌, ◌++◌, Some, None, Option, nat_le}
+use Rattle.std.specs.Prelude.{ℕ, ◌+◌, ◌-◌, ◌*◌, cond, ◌&&◌, List, [], ◌∷◌, Some, None, Option, nat_le}
 
 -- the value of a digit: 0 to 9, or A to F
 abbrev pub hex_digit : ℕ → Option ℕ
@@ -31,8 +31,3 @@ hex_bytes (high ∷ low ∷ rest) = before (hex_byte high low) (hex_bytes rest)
 abbrev pub some_bytes : List ℕ → Option (List ℕ)
 some_bytes [] = None
 some_bytes (d ∷ ds) = hex_bytes (d ∷ ds)
-
--- the bytes were added to the end, or there were none to add
-abbrev pub Added : Option (List ℕ) → Bool → List ℕ → List ℕ → Type 0
-Added (Some bs) done old new = (done ≡ true) × (new ≡ old ++ bs)
-Added None done old new = done ≡ false

@@ -1,8 +1,9 @@
 // Bytes spelt as pairs of hexadecimal digits, with capital letters.
-ghost use Rattle.std.specs.Prelude.{◌≡◌, IfOk};
-ghost use Rattle.cases.specs.Hex.{hex_digit, hex_byte, some_bytes, Added};
+ghost use Rattle.std.specs.Prelude.{◌≡◌, ◌++◌, Some, None, OnOk, IsErrOf};
+ghost use Rattle.std.specs.Option.{option_map};
+ghost use Rattle.cases.specs.Hex.{hex_digit, hex_byte, hex_bytes, some_bytes};
 
-use std::alloc::AllocError;
+use crate::error::CaseError;
 
 pub fn hex_digit(b: u8) -> Option<u8>
     ensures { result ≡ hex_digit b }
@@ -17,30 +18,34 @@ pub fn hex_digit(b: u8) -> Option<u8>
 pub fn hex_byte(high: u8, low: u8) -> Option<u8>
     ensures { result ≡ hex_byte high low }
 {
-    let Some(h) = hex_digit(high) else {
-        return None;
-    };
-    let Some(l) = hex_digit(low) else {
-        return None;
-    };
+    let h = hex_digit(high)?;
+    let l = hex_digit(low)?;
     Some(h * 16 + l)
 }
 
-// Adds the bytes that the digits spell, two digits each; false where they spell none.
-pub fn push_hex(text: &mut Vec<u8>, digits: &[u8]) -> Result<bool, AllocError>
-    ensures { IfOk result (λ done. Added (some_bytes digits.now) done text.old.items text.new.items) }
+// Adds the bytes that the digits spell, two digits each.
+pub fn push_pairs(text: &mut Vec<u8>, digits: &[u8]) -> Result<(), CaseError>
+    ensures added { OnOk result (option_map (λ bs. text.old.items ++ bs) (hex_bytes digits.now) ≡ Some text.new.items) }
+    ensures malformed { IsErrOf result CaseError.Malformed → hex_bytes digits.now ≡ None }
 {
-    if digits.len() == 0 {
-        return Ok(false);
+    let (pairs, odd) = digits.as_chunks::<2>();
+    if !odd.is_empty() {
+        return Err(CaseError::Malformed);
     }
-    if digits.len() % 2 != 0 {
-        return Ok(false);
+    for [high, low] in pairs {
+        let b = hex_byte(*high, *low).ok_or(CaseError::Malformed)?;
+        text.push(b)?;
     }
-    for i in 0..digits.len() / 2 {
-        match hex_byte(digits[2 * i], digits[2 * i + 1]) {
-            Some(b) => text.push(b)?,
-            None => return Ok(false),
-        }
+    Ok(())
+}
+
+// The same for digits of which there must be some.
+pub fn push_hex(text: &mut Vec<u8>, digits: &[u8]) -> Result<(), CaseError>
+    ensures added { OnOk result (option_map (λ bs. text.old.items ++ bs) (some_bytes digits.now) ≡ Some text.new.items) }
+    ensures malformed { IsErrOf result CaseError.Malformed → some_bytes digits.now ≡ None }
+{
+    if digits.is_empty() {
+        return Err(CaseError::Malformed);
     }
-    Ok(true)
+    push_pairs(text, digits)
 }

@@ -1,13 +1,11 @@
 // The lines of a case file.
-ghost use Rattle.std.specs.Prelude.{◌≡◌, ◌++◌, IfOk, if◌then◌else◌, Some, None, vec_items, MatchOption, OnOk, nat_le, nat_lt, slice_index};
-ghost use Rattle.std.specs.Option.{option_map};
-ghost use Rattle.cases.specs.Fields.{skipped, word_of, rest_of, times, times_of, repeated, field_bytes, text_of};
+ghost use Rattle.std.specs.Prelude.{◌≡◌, ℕ, List, IfOk, IsErrOf, Some, None, Option, MatchOption, nat_lt, slice_index};
+ghost use Rattle.std.specs.Fn.{FnReturnsAt, FnOnceReturnsAt};
+ghost use Rattle.cases.specs.Fields.{skipped, word_of, rest_of, times, loose_times, counted, times_of, Gives, field_bytes, Spells, fields_of, gathered, text_of};
 
+use crate::error::CaseError;
 use crate::hex::push_hex;
-use std::alloc::{AllocError, Global};
-
-// What is printed for a case that has a malformed field.
-pub const MALFORMED: &str = "! a field that is missing, not hexadecimal, or repeated too often";
+use std::alloc::Global;
 
 // The most times that a field may be repeated.
 const REPEATS: usize = 40_000;
@@ -16,7 +14,7 @@ const REPEATS: usize = 40_000;
 pub fn is_skipped(line: &str) -> bool
     ensures { result ≡ skipped line.now }
 {
-    line.is_empty() || line.as_bytes()[0] == b'#'
+    matches!(line.as_bytes(), [] | [b'#', ..])
 }
 
 // What stands before the first space, and after it.
@@ -24,97 +22,84 @@ pub fn split_word(line: &str) -> (&str, &str)
     ensures word { result.0.now ≡ word_of 32 line.now }
     ensures rest { result.1.now ≡ rest_of 32 line.now }
 {
-    match line.split_once(' ') {
-        Some((word, rest)) => (word, rest),
-        None => (line, ""),
-    }
+    line.split_once(' ').unwrap_or((line, ""))
 }
 
 // Whether a text begins as a number from 1 on does: not with a zero, nor with a sign.
 fn begins_above_zero(count: &[u8]) -> bool
     ensures { result ≡ nat_lt 48 (slice_index count.now 0) }
 {
-    if count.len() == 0 {
-        return false;
-    }
-    count[0] > b'0'
+    count.first().is_some_and(|b| *b > b'0')
 }
 
-fn within_limit(n: usize) -> Option<usize>
-    ensures { result ≡ (if nat_le n 40000 then Some n else None) }
+// A count up to the limit, before which a plus sign and zeros may stand.
+pub fn loose_repeats(count: &str) -> Option<usize>
+    ensures { result ≡ loose_times count.now }
 {
-    if n <= REPEATS { Some(n) } else { None }
+    count.parse::<usize>().ok().filter(|n| *n <= REPEATS)
 }
 
 // How often a field stands that is repeated.
 fn repeats(count: &str) -> Option<usize>
     ensures { result ≡ times count.now }
 {
-    if !begins_above_zero(count.as_bytes()) {
-        return None;
-    }
-    match count.parse::<usize>() {
-        Ok(n) => within_limit(n),
-        Err(_) => None,
+    if begins_above_zero(count.as_bytes()) {
+        loose_repeats(count)
+    } else {
+        None
     }
 }
 
-// The digits of a field, and how often they stand; none where that is malformed.
-fn digits_of(field: &str) -> Option<(&str, usize)>
-    ensures { MatchOption result (times_of field.now ≡ None) (λ p. (p.0.now ≡ word_of 42 field.now) × (times_of field.now ≡ Some p.1)) }
+// The digits of a field, and how often they stand by the rule for counts; none where that takes no such count.
+pub fn digits_of<F: FnOnce(&str) -> Option<usize>>(
+    field: &str,
+    count_of: F,
+) -> Option<(&str, usize)>
+    requires { F.IsAlwaysCallable count_of }
+    ensures { (t : List ℕ → Option ℕ) → Gives (FnOnceReturnsAt F.FnOnce count_of) t → MatchOption result (counted t field.now ≡ None) (λ p. (p.0.now ≡ word_of 42 field.now) × (counted t field.now ≡ Some p.1)) }
 {
     match field.split_once('*') {
         None => Some((field, 1)),
-        Some((digits, count)) => match repeats(count) {
-            Some(n) => Some((digits, n)),
-            None => None,
-        },
+        Some((digits, count)) => Some((digits, count_of(count)?)),
     }
 }
 
-fn push_times(bytes: &mut Vec<u8>, once: &[u8], n: usize) -> Result<(), AllocError>
-    ensures { OnOk result (bytes.new.items ≡ bytes.old.items ++ repeated n once.now) }
+// The bytes of a field.
+pub fn field_of(heap: Global, field: &str) -> Result<Vec<u8>, CaseError>
+    ensures bytes { IfOk result (λ v. field_bytes field.now ≡ Some v.items) }
+    ensures malformed { IsErrOf result CaseError.Malformed → field_bytes field.now ≡ None }
 {
-    for _i in 0..n {
-        bytes.extend_from_slice(once)?;
-    }
-    Ok(())
-}
-
-// The bytes of a field, or none where it is malformed.
-pub fn field_of(heap: Global, field: &str) -> Result<Option<Vec<u8>>, AllocError>
-    ensures { IfOk result (λ o. option_map vec_items o ≡ field_bytes field.now) }
-{
-    let Some((digits, n)) = digits_of(field) else {
-        return Ok(None);
-    };
+    let (digits, n) = digits_of(field, |count| repeats(count)).ok_or(CaseError::Malformed)?;
     let mut once = Vec::new(heap);
-    if !push_hex(&mut once, digits.as_bytes())? {
-        return Ok(None);
-    }
-    let mut bytes = Vec::new(heap);
-    push_times(&mut bytes, once.as_slice(), n)?;
-    Ok(Some(bytes))
+    push_hex(&mut once, digits.as_bytes())?;
+    Ok(once.as_slice().repeat(heap, n)?)
 }
 
-// The text of a case, or none where a field is malformed.
-pub fn text_of(heap: Global, fields: &str) -> Result<Option<Vec<u8>>, AllocError>
-    ensures { IfOk result (λ o. option_map vec_items o ≡ text_of fields.now) }
+// The bytes of all the fields in a row, each by the rule for a field.
+pub fn gather<F: Fn(&str) -> Result<Vec<u8>, CaseError>>(
+    heap: Global,
+    fields: &str,
+    bytes_of: F,
+) -> Result<Vec<u8>, CaseError>
+    requires { F.IsAlwaysCallable bytes_of }
+    ensures bytes { (b : List ℕ → Option (List ℕ)) → Spells (FnReturnsAt F.Fn bytes_of) b → IfOk result (λ v. gathered b (fields_of fields.now) ≡ Some v.items) }
+    ensures malformed { (b : List ℕ → Option (List ℕ)) → Spells (FnReturnsAt F.Fn bytes_of) b → IsErrOf result CaseError.Malformed → gathered b (fields_of fields.now) ≡ None }
 {
     let mut text = Vec::new(heap);
-    if fields.is_empty() {
-        return Ok(Some(text));
-    }
-    let mut rest = fields;
-    loop {
-        let (field, after) = split_word(rest);
-        let Some(bytes) = field_of(heap, field)? else {
-            return Ok(None);
-        };
+    for field in fields.split(' ') {
+        let bytes = bytes_of(field)?;
         text.extend_from_slice(bytes.as_slice())?;
-        if field.len() == rest.len() {
-            return Ok(Some(text));
-        }
-        rest = after;
     }
+    Ok(text)
+}
+
+// The text of a case.
+pub fn text_of(heap: Global, fields: &str) -> Result<Vec<u8>, CaseError>
+    ensures bytes { IfOk result (λ v. text_of fields.now ≡ Some v.items) }
+    ensures malformed { IsErrOf result CaseError.Malformed → text_of fields.now ≡ None }
+{
+    if fields.is_empty() {
+        return Ok(Vec::new(heap));
+    }
+    gather(heap, fields, |field| field_of(heap, field))
 }

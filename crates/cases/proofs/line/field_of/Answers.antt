@@ -1,8 +1,25 @@
-use Rattle.std.proofs.Common.{vec_items, sym, ◌∙◌}
-use Rattle.cases.proofs.Gathers.{field_none}
+-- No count, no digits, and the digits so often.
+use Rattle.std.proofs.Common.{ap, ◌∙◌, rules}
+use Rattle.std.specs.List.{each_same, repeat}
+use Rattle.cases.specs.Fields.{times}
+use Rattle.cases.proofs.Gathers.{uncounted, unspelt, spelt}
 use Rattle.cases.proofs.line.field_of.Goals as goal
 
-pub returns-then-not-branch : goal.returns-then-not-branch
-returns-then-not-branch c =
-    let word = c.as_bytes.ensures.value ∙ c.in-Some.ensures.0 in
-    sym (field_none c.args.field.now c.as_bytes.result.now c.in-Some.n word c.in-Some.ensures.1 c.in_ok-push_hex.field-0 (vec_items c.new-once.result) (vec_items c.push_hex.new.text) c.if-not-branch.true c.in_ok-push_hex.ensures)
+pub returns-in_err-digits-clause-malformed : goal.returns-in_err-digits-clause-malformed
+returns-in_err-digits-clause-malformed c =
+    let d = c.digits_of.ensures times (λ s r e. search rules) in
+    λ e. uncounted c.args.field.now (rw c.in_err-digits.ensures.ok_part at d)
+
+pub returns-in_err-push_hex-clause-malformed : goal.returns-in_err-push_hex-clause-malformed
+returns-in_err-push_hex-clause-malformed c =
+    let d = c.digits_of.ensures times (λ s r e. search rules) in
+    let k = rw c.in_ok-digits.ensures.ok_part at d in
+    λ e. unspelt c.args.field.now c.as_bytes.result.now c.in_ok-digits.n (c.as_bytes.ensures.value ∙ k.0) k.1 (c.in_err-push_hex.ensures.malformed (search rules))
+
+pub returns-clause-bytes : goal.returns-clause-bytes
+returns-clause-bytes c =
+    let d = c.digits_of.ensures times (λ s r e. search rules) in
+    let k = rw c.in_ok-digits.ensures.ok_part at d in
+    spelt c.args.field.now c.as_bytes.result.now c.in_ok-digits.n (c.as_bytes.ensures.value ∙ k.0) k.1
+    c.new-once.result.items c.push_hex.new.text.items c.in_ok-repeat.field-0.items c.new-once.ensures.items c.in_ok-push_hex.ensures.added
+    (each_same _ _ c.in_ok-repeat.ensures.items ∙ ap (repeat c.in_ok-digits.n) c.as_slice.ensures.value)
