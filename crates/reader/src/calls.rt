@@ -2,7 +2,7 @@
 ghost use Rattle.std.specs.Prelude.{◌≡◌, ◌<◌, ◌≤◌, min, length, Err, IsUtf8, IsOkAnd, Option};
 ghost use Rattle.reader.specs.declared.OpenError.TheVariants.{TooLong, NotUtf8};
 ghost use Rattle.reader.specs.Reading.{unless, opening_refusal};
-ghost use Rattle.reader.specs.View.{reader_text, Opened, OpenedOctets, reading, row_of, SameLenders, Taken, ReadTo, PiecesFed};
+ghost use Rattle.reader.specs.View.{reader_text, Opened, OpenedOctets, reading, SameLenders, Taken, ReadTo, PiecesFed};
 
 use crate::feed::feed_gap;
 use crate::tables::Tables;
@@ -27,17 +27,6 @@ fn text_of(bytes: &[u8], limit: usize) -> Result<&str, OpenError>
         return Err(OpenError::TooLong);
     }
     from_utf8(bytes).map_err(|_| OpenError::NotUtf8)
-}
-
-fn make_row(found: Found, builder: &TriviaBuilder) -> TokenRow
-    ensures { result ≡ row_of found builder.now }
-{
-    TokenRow {
-        token: found.token,
-        pure_comments: builder.previous_token_pure_comments(),
-        no_side_effects_comments: builder.previous_token_no_side_effects_comments(),
-        unterminated: found.unterminated,
-    }
 }
 
 impl<'t> Reader<'t> {
@@ -97,13 +86,11 @@ impl<'t> Reader<'t> {
         ensures taken { Taken found self.old self.new tables.old tables.new }
         ensures lenders { SameLenders tables.old tables.new }
     {
-        let mut builder = self.builder;
-        builder.clear_pure_comments();
-        builder.clear_no_side_effects_comments();
-        feed_gap(&mut builder, tables, &self.source);
-        builder.handle_token(&mut tables.comments, found.token);
-        let _ = tables.tokens.append(make_row(found, &builder));
-        self.builder = builder;
+        self.builder.clear_pure_comments();
+        self.builder.clear_no_side_effects_comments();
+        feed_gap(&mut self.builder, tables, &self.source);
+        self.builder.handle_token(&mut tables.comments, found.token);
+        let _ = tables.tokens.append(TokenRow::new(found, &self.builder));
         self.source.set_position(found.token.end as usize);
         self.ended = found.token.kind == Kind::Eof;
     }

@@ -35,7 +35,7 @@ impl From<OpenError> for Refusal {
 
 #[derive(Drop)]
 pub struct Reader<'t> {
-    // Whether the text was opened.
+    // Whether the text was opened. Where it was not, the source is the empty text.
     opening: Result<(), OpenError>,
     source: Source<'t>,
     builder: TriviaBuilder,

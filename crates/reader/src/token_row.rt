@@ -1,4 +1,8 @@
 // The row of a token: the token, the ranges of remarks before it, and whether it is an unterminated Eof.
+ghost use Rattle.std.specs.Prelude.{◌≡◌};
+ghost use Rattle.reader.specs.View.{row_of};
+
+use builder::state::TriviaBuilder;
 use kinds::token::Token;
 use table::Row;
 
@@ -22,5 +26,19 @@ impl Row for TokenRow {
 
     fn start(&self) -> usize {
         self.token.start as usize
+    }
+}
+
+impl TokenRow {
+    // The row of a token, with the ranges that the builder holds.
+    pub(crate) fn new(found: Found, builder: &TriviaBuilder) -> Self
+        ensures { result ≡ row_of found builder.now }
+    {
+        TokenRow {
+            token: found.token,
+            pure_comments: builder.previous_token_pure_comments(),
+            no_side_effects_comments: builder.previous_token_no_side_effects_comments(),
+            unterminated: found.unterminated,
+        }
     }
 }
