@@ -8,7 +8,7 @@ ghost use Rattle.reader.specs.View.{SameLenders};
 
 use crate::tables::Tables;
 use builder::state::TriviaBuilder;
-use scanner::piece::{Piece, Scan, Trivia, piece_at};
+use scanner::piece::{Piece, Trivia, piece_at};
 use source::source::Source;
 
 // A place as a row holds it; places of a text fit.
@@ -80,7 +80,7 @@ pub(crate) fn feed_gap(builder: &mut TriviaBuilder, tables: &mut Tables<'_>, sou
     ensures lenders { SameLenders tables.old tables.new }
 {
     let mut ahead = *source;
-    while let Scan::Found(piece) = piece_at(&ahead) {
+    while let Ok(Some(piece)) = piece_at(&ahead) {
         feed_piece(builder, tables, source.whole(), &piece);
         ahead.set_position(piece.end);
     }

@@ -2,7 +2,7 @@
 use kinds::kind::Kind;
 use scanner::comment::read_hashbang_comment;
 use scanner::gap::measure_gap;
-use scanner::piece::{Piece, Scan, Trivia, piece_at};
+use scanner::piece::{Piece, Trivia, piece_at};
 use source::source::Source;
 use std::io;
 use tokens::json::Json;
@@ -12,10 +12,10 @@ use tokens::token_reader::{TokenReader, Told};
 // Every kind in the order of the numbers, with its answers to the three questions about kinds.
 pub fn print_kinds(rt: &HostRuntime) -> io::Result<()> {
     for number in 0..=u8::MAX {
-        if let Some(kind) = Kind::from_number(number) {
-            let ends = kind.can_end_expression() as u8;
-            let continues = kind.continues_previous_expression() as u8;
-            let keeps = kind.keeps_line_comment_leading() as u8;
+        if let Ok(kind) = Kind::try_from(number) {
+            let ends = u8::from(kind.can_end_expression());
+            let continues = u8::from(kind.continues_previous_expression());
+            let keeps = u8::from(kind.keeps_line_comment_leading());
             println!(rt; "{number} {kind:?} {ends} {continues} {keeps}")?;
         }
     }
@@ -43,14 +43,14 @@ fn print_piece(rt: &HostRuntime, piece: &Piece<'_>) -> io::Result<()> {
 pub fn print_pieces(rt: &HostRuntime, text: &str) -> io::Result<()> {
     let source = Source::new(text);
     let mut ahead = source;
-    while let Scan::Found(piece) = piece_at(&ahead) {
+    while let Ok(Some(piece)) = piece_at(&ahead) {
         print_piece(rt, &piece)?;
         ahead.set_position(piece.end);
     }
     let gap = measure_gap(&source, None, None);
     let end = gap.end;
-    let newline = gap.newline as u8;
-    let unterminated = gap.unterminated as u8;
+    let newline = u8::from(gap.newline);
+    let unterminated = u8::from(gap.unterminated);
     println!(rt; "G {end} {newline} {unterminated}")
 }
 
@@ -66,7 +66,7 @@ pub fn print_hashbang(rt: &HostRuntime, text: &str) -> io::Result<()> {
 }
 
 fn print_token(rt: &HostRuntime, place: usize, told: Told) -> io::Result<()> {
-    let kind = told.kind.number();
+    let kind = u8::from(told.kind);
     let end = told.end;
     println!(rt; "T {kind} {place} {end}")
 }
