@@ -1,6 +1,9 @@
 -- What the first record tells that tells a token at a place.
-use Rattle.std.proofs.Common.{◌≡◌, ℕ, zero, suc, ◌/◌, ◌≤◌, List, length, IfSome, Some, None, Option, sym, refl, ap, ◌∙◌, subst, ⊎_elim, arith}
-use Rattle.std.specs.Option.{option_or}
+use Rattle.std.proofs.Common.{◌≡◌, ℕ, zero, suc, ◌+◌, ◌*◌, ◌/◌, ◌<◌, ◌≤◌, List, length, take, drop, Bor, IsTrue, IfSome, IsSomeAnd, MatchOption, Some, None, Option, sym, refl, ap, ◌∙◌, subst, ⊎_elim, arith}
+use Rattle.std.specs.Fn.{Called, Mut}
+use Rattle.std.specs.Iterator.Runs.{Run, AllItemsGive, IsFirstToGive, IsChunksExactRun}
+use Rattle.std.specs.List.{IsSubsliceAt}
+use Rattle.std.specs.Option.{option_map, option_or}
 use Rattle.std.proofs.lemmas.Bool.{cases_lt}
 use Rattle.tokens.specs.Layout.{record_of, record_bytes}
 use Rattle.tokens.specs.Recorded.{RecordTells, FirstTold, told_by, first_of, recorded_telling}
@@ -50,8 +53,44 @@ module _ (list text : List ℕ) (place : ℕ) where
       (λ ge. ap (λ o. option_or o (told_by text place (record_of (record_bytes list m)))) (first_stays n m t ge h))
       (cases_lt m n)
 
-  -- one record more
-  pub first_more : (n : ℕ) (r : Option Record) (o : Option Told) → first_of list text place n ≡ None → r ≡ record_of (record_bytes list n)
-      → o ≡ told_by text place r → first_of list text place (suc n) ≡ o
-  first_more n r o before read is =
-      ap (λ p. option_or p (told_by text place (record_of (record_bytes list n)))) before ∙ sym (is ∙ ap (told_by text place) read)
+  -- records that tell nothing, and then one that tells a token
+  none_among : (n : ℕ) → ((k : ℕ) → k < n → told_by text place (record_of (record_bytes list k)) ≡ None) → first_of list text place n ≡ None
+  none_among zero h = refl
+  none_among (suc n) h =
+      ap (λ o. option_or o (told_by text place (record_of (record_bytes list n)))) (none_among n (λ k lt. h k (omega arith))) ∙ h n (omega arith)
+
+  first_at : (i n : ℕ) (t : Told) → i < n → ((k : ℕ) → k < i → told_by text place (record_of (record_bytes list k)) ≡ None)
+      → told_by text place (record_of (record_bytes list i)) ≡ Some t → first_of list text place n ≡ Some t
+  first_at i n t lt before here =
+      first_stays (suc i) n t (omega arith) (ap (λ o. option_or o (told_by text place (record_of (record_bytes list i)))) (none_among i before) ∙ here)
+
+  -- a run over the records of the list, that asks each what it tells
+  module _ {S F : Type 0} {steps : S → Option (Bor (List ℕ)) → S → Type 0} (p : Run steps) (chunks : IsChunksExactRun p 11 list)
+      (g : Mut F (Bor (List ℕ) × Unit {0}) (Option Told)) (f : F) where
+    abbrev Says : Type 0
+    Says = (x : Bor (List ℕ)) (o : Option Told) (f' : F) → Called g f (x, tt) o f' → (f' ≡ f) × (o ≡ told_by text place (record_of x.now))
+
+    item : Says → (k : ℕ) (o : Option Told) (r : Option (Bor (List ℕ))) → IfSome r (λ x. (length x.now ≡ 11) × (k * 11 + 11 ≤ length list) × IsSubsliceAt 11 list (k * 11) x.now)
+        → IsSomeAnd r (λ x. Called g f (x, tt) o f) → told_by text place (record_of (record_bytes list k)) ≡ o
+    item says k o None is h = absurd h
+    item says k o (Some x) is h =
+        let at : k * 11 ≡ 11 * k = omega arith in
+        ap (λ bs. told_by text place (record_of bs)) (sym (is.2.0 ∙ ap (λ n. take 11 (drop n list)) at)) ∙ sym (says x o f h).1
+
+    gives : Says → (k : ℕ) (o : Option Told) → IsSomeAnd (p.at k) (λ x. Called g f (x, tt) o f) → told_by text place (record_of (record_bytes list k)) ≡ o
+    gives says k o h = item says k o (p.at k) (chunks.2 k) h
+
+    there : (P : Bor (List ℕ) → Type 0) (r : Option (Bor (List ℕ))) (x : Bor (List ℕ)) → option_map (λ y. y) r ≡ Some x → IfSome r P → IsSomeAnd r P
+    there P None x e h = cc
+    there P (Some y) x e h = h
+
+    pub first_given : Bor (List ℕ) → (o : Option Told)
+        → MatchOption o (IsTrue p.whole × AllItemsGive p g f None) (λ t. (i : ℕ) × (i < p.len) × (p.len ≡ i + 1) × IsFirstToGive p g f (Some t) None i)
+        → Says → o ≡ recorded_telling list text place
+    first_given any None h says =
+        let all : p.len ≡ length list / 11 = chunks.1 h.0 in
+        let each = h.1 (λ a o f' k. (says a.0 o f' k).0) in
+        sym (none_among (length list / 11) (λ k lt. gives says k None (there (λ x. Called g f (x, tt) None f) (p.at k) _ (p.reads k any (omega (arith, all, lt))) (each k))))
+    first_given any (Some t) (i, lt, len, h) says =
+        let told = h (λ a o f' k. (says a.0 o f' k).0) in
+        sym (first_at i (length list / 11) t (omega (arith, len, chunks.0)) (λ k lt. gives says k None (told.1 k lt)) (gives says i (Some t) told.0))

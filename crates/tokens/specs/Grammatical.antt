@@ -10,7 +10,6 @@ use Rattle.std.proofs.lemmas.Bool.Decides.{nat_tests as tests}
 use Rattle.kinds.specs.declared.kind.Kind.{Kind}
 use Rattle.kinds.specs.declared.kind.Kind.TheVariants.{LCurly, RCurly, LBrack, RBrack, Colon, Comma, True, False, Null, Str}
 use Rattle.tokens.specs.declared.token_reader.Told.{Told}
-use Rattle.tokens.specs.declared.json.ByteClass.TheVariants.{Letter}
 use Rattle.tokens.specs.Grammar.{letter, quote, Structural, begin_array, begin_object, end_array, end_object, name_separator, value_separator, LiteralName, name_true, name_false, name_null, Chars, String, NumberOf, Longest, JsonToken, structural_character, literal_name, string, number, Tells}
 use Rattle.tokens.specs.Json.{run_end, told, structural, structural_at, literal, literal_at, string_from, told_string, string_at, number_at, json_telling}
 use Rattle.tokens.specs.Rules.{byte_at, between, one, many, ◌then◌, Stands}
@@ -64,13 +63,13 @@ named name_true = record { is = refl; letters = (refl, (refl, (refl, (refl, tt))
 named name_false = record { is = refl; letters = (refl, (refl, (refl, (refl, (refl, tt))))); some = omega arith; apart = λ t. refl }
 named name_null = record { is = refl; letters = (refl, (refl, (refl, (refl, tt)))); some = omega arith; apart = λ t. refl }
 
-literal_sound : (text : List ℕ) (place : ℕ) (o : Option Kind) → IfSome o (λ kind. LiteralName kind (between text place (run_end Letter text place)))
-    → IfSome (told o (run_end Letter text place)) (Token text place)
+literal_sound : (text : List ℕ) (place : ℕ) (o : Option Kind) → IfSome o (λ kind. LiteralName kind (between text place (run_end letter text place)))
+    → IfSome (told o (run_end letter text place)) (Token text place)
 literal_sound text place None h = tt
 literal_sound text place (Some kind) h =
-    let end = run_end Letter text place in
+    let end = run_end letter text place in
     let within : place ≤ length text = omega (arith, (named h).some, length-take (end - place) (drop place text), length-drop place text) in
-    literal_name (run_inside Letter text place within, h) (run_ends Letter text place refl)
+    literal_name (run_inside letter text place within, h) (run_ends letter text place refl)
 
 -- strings
 string_told : (text : List ℕ) (place : ℕ) → quote (byte_at text place) ≡ true → (o : Option ℕ) → IfSome o (Closes false (place + 1) (drop (place + 1) text)) → IfSome (told_string o) (Token text place)
@@ -111,7 +110,7 @@ pub sound : (text : List ℕ) (place : ℕ) → IfSome (json_telling text place)
 sound text place =
     let P = Token text place in
     either P (structural_at text place) _ (structural_sound text place (structural (byte_at text place)) (structural_is (byte_at text place)))
-    (either P (literal_at text place) _ (literal_sound text place (literal (between text place (run_end Letter text place))) (literal_is (between text place (run_end Letter text place))))
+    (either P (literal_at text place) _ (literal_sound text place (literal (between text place (run_end letter text place))) (literal_is (between text place (run_end letter text place))))
     (either P (string_at text place) (number_at text place) (string_sound text place)
     (numbers text place (number_at text place) refl (number_sound text place))))
 
@@ -127,7 +126,7 @@ token kind end = record { kind = kind; end = end }
 
 no_literal : (text : List ℕ) (place : ℕ) → letter (byte_at text place) ≡ false → literal_at text place ≡ None
 no_literal text place h =
-    let e : run_end Letter text place ≡ place = run_over Letter text place [] (drop place text) refl tt ∙ (let z = leading_none letter (drop place text) (ap letter (sym (first text place (drop place text) refl)) ∙ h) in omega (arith, z)) in
+    let e : run_end letter text place ≡ place = run_over letter text place [] (drop place text) refl tt ∙ (let z = leading_none letter (drop place text) (ap letter (sym (first text place (drop place text) refl)) ∙ h) in omega (arith, z)) in
     ap (λ n. told (literal (between text place n)) n) e ∙ ap (λ w. told (literal w) place) (between_empty text place)
 
 character_is : {kind : Kind} {bs : List ℕ} → Structural kind bs → (b : ℕ) × (bs ≡ b ∷ []) × (structural b ≡ Some kind)
@@ -156,7 +155,7 @@ literal_complete text place end kind inside h stops =
     let long : place + length word ≡ end = omega (arith, between_length text place end inside) in
     let after : byte_at text end ≡ slice_index_or rest 0 0 = first text end rest (ap (λ m. drop m text) (sym long) ∙ over text place word rest stands) in
     let none = leading_none letter rest (ap letter (sym after) ∙ stops) in
-    let run : run_end Letter text place ≡ end = omega (arith, run_over Letter text place word rest stands n.letters, none) in
+    let run : run_end letter text place ≡ end = omega (arith, run_over letter text place word rest stands n.letters, none) in
     skip (structural_at text place) _ (ap (λ k. told k (place + 1)) (ap structural (first text place (word ++ rest) stands) ∙ n.apart rest))
     ∙ take_first (literal_at text place) _ (token kind end) (ap (λ m. told (literal (between text place m)) m) run ∙ ap (λ k. told k end) n.is)
 

@@ -1,5 +1,5 @@
 -- The token of a JSON text that begins at a place, as a computation.
-use Rattle.std.specs.Prelude.{ℕ, ◌+◌, Bool, false, cond, ◌&&◌, ◌||◌, List, [], ◌∷◌, drop, Some, None, codes, Option, ◌==◌, nat_lt}
+use Rattle.std.specs.Prelude.{ℕ, ◌+◌, Bool, false, cond, ◌&&◌, ◌||◌, List, [], ◌∷◌, drop, Some, None, codes, Option, unwrap_or, ◌==◌, nat_lt}
 use Rattle.std.specs.Option.{option_or}
 use Rattle.std.specs.List.{prefix_len}
 use Rattle.std.specs.Str.{bytes_eq}
@@ -9,17 +9,10 @@ use Rattle.tokens.specs.Grammar.{decimal_point, digit, digit1_9, escape, exp_mar
 use Rattle.tokens.specs.Rules.{between, byte_at}
 use Rattle.tokens.specs.Telling.{Telling}
 use Rattle.tokens.specs.declared.token_reader.Told.{Told}
-use Rattle.tokens.specs.declared.json.ByteClass.{ByteClass}
-use Rattle.tokens.specs.declared.json.ByteClass.TheVariants.{Digit, Letter}
-use Rattle.tokens.specs.declared.json.Exponent.{Exponent}
-
-abbrev pub in_class : ByteClass → ℕ → Bool
-in_class Digit = digit
-in_class Letter = letter
 
 -- where a run of bytes of a class ends that goes on from a place
-abbrev pub run_end : ByteClass → List ℕ → ℕ → ℕ
-run_end class text from = from + prefix_len (in_class class) (drop from text)
+abbrev pub run_end : (ℕ → Bool) → List ℕ → ℕ → ℕ
+run_end class text from = from + prefix_len class (drop from text)
 
 abbrev pub told : Option Kind → ℕ → Option Told
 told None end = None
@@ -42,7 +35,7 @@ literal word =
 
 -- a literal name is told where it is the whole run of letters from the place
 abbrev pub literal_at : Telling
-literal_at text place = told (literal (between text place (run_end Letter text place))) (run_end Letter text place)
+literal_at text place = told (literal (between text place (run_end letter text place))) (run_end letter text place)
 
 -- below %x20
 abbrev pub control : ℕ → Bool
@@ -70,26 +63,29 @@ int_start text place = cond (minus (byte_at text place)) (place + 1) place
 -- int = zero / ( digit1-9 *DIGIT ): where it ends; the place itself if none stands there
 abbrev pub int_end : List ℕ → ℕ → ℕ
 int_end text place =
-    cond (zero_digit (byte_at text place)) (place + 1) (cond (digit1_9 (byte_at text place)) (run_end Digit text (place + 1)) place)
+    cond (zero_digit (byte_at text place)) (place + 1) (cond (digit1_9 (byte_at text place)) (run_end digit text (place + 1)) place)
 
 -- frac = decimal-point 1*DIGIT: where it ends; the place itself if none stands there
 abbrev pub frac_end : List ℕ → ℕ → ℕ
-frac_end text place = cond (decimal_point (byte_at text place) && digit (byte_at text (place + 1))) (run_end Digit text (place + 1)) place
+frac_end text place = cond (decimal_point (byte_at text place) && digit (byte_at text (place + 1))) (run_end digit text (place + 1)) place
 
 -- [ minus / plus ]: the place after a sign, if one stands there
 abbrev pub after_sign : List ℕ → ℕ → ℕ
 after_sign text place = cond (minus (byte_at text place) || plus (byte_at text place)) (place + 1) place
 
--- exp = e [ minus / plus ] 1*DIGIT
-abbrev pub exp_at : List ℕ → ℕ → Option Exponent
+-- exp = e [ minus / plus ] 1*DIGIT: what is told of a number that ends with it
+abbrev pub exp_at : Telling
 exp_at text place =
     cond (exp_mark (byte_at text place) && digit (byte_at text (after_sign text (place + 1))))
-    (Some (record { negative = minus (byte_at text (place + 1)); end = run_end Digit text (after_sign text (place + 1)) })) None
+    (Some (record {
+      kind = cond (minus (byte_at text (place + 1))) NegativeExponential PositiveExponential;
+      end = run_end digit text (after_sign text (place + 1));
+    }))
+    None
 
 -- a number whose int and frac end at these places: int [ frac ] [ exp ]
-abbrev pub told_number : ℕ → ℕ → Option Exponent → Told
-told_number int frac None = record { kind = cond (frac == int) Decimal Float; end = frac }
-told_number int frac (Some exp) = record { kind = cond exp.negative NegativeExponential PositiveExponential; end = exp.end }
+abbrev pub told_number : ℕ → ℕ → Option Told → Told
+told_number int frac exp = unwrap_or exp (record { kind = cond (frac == int) Decimal Float; end = frac })
 
 abbrev pub number_from : List ℕ → ℕ → ℕ → Option Told
 number_from text start int =

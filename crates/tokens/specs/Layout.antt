@@ -1,7 +1,8 @@
 -- The layout of a recorded token: what eleven bytes spell.
-use Rattle.std.specs.Prelude.{◌≡◌, ℕ, ◌+◌, ◌*◌, Bool, cond, ◌&&◌, List, length, take, drop, Some, None, codes, Option, ◌==◌, slice_index, slice_index_or}
+use Rattle.std.specs.Prelude.{◌≡◌, ℕ, ◌+◌, ◌*◌, Bool, cond, ◌&&◌, List, length, take, drop, Some, None, codes, Option, Result, IfOk, Ok, ok_or, ◌==◌, slice_index, slice_index_or}
 use Rattle.kinds.specs.Kinds.{number_of, kind_of}
 use Rattle.kinds.specs.declared.kind.Kind.{Kind}
+use Rattle.tokens.specs.declared.layout.NotARecord.{NotARecord}
 use Rattle.tokens.specs.declared.layout.Record.{Record}
 
 -- the number that four bytes from a place on spell, the least byte first
@@ -29,6 +30,12 @@ record_of_kind (Some kind) start end = Some (record { kind = kind; start = start
 -- the record that the bytes spell, if they spell one
 abbrev pub record_of : List ℕ → Option Record
 record_of bytes = cond (marked bytes) (record_of_kind (kind_of (slice_index bytes 2)) (little_endian bytes 3) (little_endian bytes 7)) None
+
+-- what is told of bytes: the record that they spell, or an error
+pub record GivesRecord (bytes : List ℕ) (r : Result Record NotARecord) : Type 0 where
+  pub value : r ≡ ok_or (record_of bytes) (record {})
+  pub spells : IfOk r (Spells bytes)
+  pub every : (x : Record) → Spells bytes x → r ≡ Ok x
 
 -- the bytes of record n of a list; they are fewer than eleven where the list has no such record
 abbrev pub record_bytes : List ℕ → ℕ → List ℕ

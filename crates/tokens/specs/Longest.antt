@@ -8,8 +8,6 @@ use Rattle.std.proofs.lemmas.Bool.Decides.{nat_tests}
 use Rattle.kinds.specs.declared.kind.Kind.{Kind}
 use Rattle.kinds.specs.declared.kind.Kind.TheVariants.{Decimal, Float, PositiveExponential, NegativeExponential}
 use Rattle.tokens.specs.declared.token_reader.Told.{Told}
-use Rattle.tokens.specs.declared.json.ByteClass.TheVariants.{Digit}
-use Rattle.tokens.specs.declared.json.Exponent.{Exponent}
 use Rattle.tokens.specs.Json.{run_end, int_start, int_end, frac_end, after_sign, exp_at, told_number, number_at}
 use Rattle.tokens.specs.Grammar.{digit, minus, plus, zero_digit, decimal_point, digit1_9, exp_mark, Digits, Int, Frac, Exp, Number, NumberOf, decimal, float, negative, positive}
 use Rattle.tokens.specs.Rules.{byte_at, between, one, many, ◌or◌, ◌then◌, optional}
@@ -28,11 +26,11 @@ digits_led : (bs : List ℕ) → Digits bs → Led digit (many digit) bs
 digits_led bs h = led digit (many digit) bs h.0 h.1 h.2 h.3 h.4
 
 digits_run : (text : List ℕ) (from : ℕ) (ds t : List ℕ) → drop from text ≡ ds ++ t → Digits ds
-    → (digit (byte_at text from) ≡ true) × (from + length ds ≤ run_end Digit text from) × (prefix_len digit t ≡ 0 → run_end Digit text from ≡ from + length ds)
+    → (digit (byte_at text from) ≡ true) × (from + length ds ≤ run_end digit text from) × (prefix_len digit t ≡ 0 → run_end digit text from ≡ from + length ds)
 digits_run text from ds t h g =
     let l = digits_led ds g in
     let stands = h ∙ ap (λ z. z ++ t) l.2 in
-    let e = run_over Digit text from (l.0 ∷ l.1) t stands (l.3, l.4) in
+    let e = run_over digit text from (l.0 ∷ l.1) t stands (l.3, l.4) in
     let long = ap length l.2 in
     (ap digit (first text from (l.0 ∷ (l.1 ++ t)) stands) ∙ l.3, omega (arith, e, long), λ z. omega (arith, e, long, z))
 
@@ -47,7 +45,7 @@ int_zero : (text : List ℕ) (s : ℕ) (i t : List ℕ) → drop s text ≡ i ++
 int_zero text s i t h o =
     let is = first text s (o.0 ∷ t) (h ∙ ap (λ z. z ++ t) o.1) in
     let zero = ap zero_digit is ∙ o.2 in
-    let e : int_end text s ≡ s + 1 = ap (λ v. cond v (s + 1) (cond (digit1_9 (byte_at text s)) (run_end Digit text (s + 1)) s)) zero in
+    let e : int_end text s ≡ s + 1 = ap (λ v. cond v (s + 1) (cond (digit1_9 (byte_at text s)) (run_end digit text (s + 1)) s)) zero in
     let long = ap length o.1 in
     record { some = omega (arith, long); first = grind (arith, nat_tests); least = omega (arith, e, long); exact = λ _. omega (arith, e, long) }
 
@@ -56,9 +54,9 @@ int_digits text s i t h l =
     let stands = h ∙ ap (λ z. z ++ t) l.2 in
     let is = ap digit1_9 (first text s (l.0 ∷ (l.1 ++ t)) stands) ∙ l.3 in
     let apart : zero_digit (byte_at text s) ≡ false = grind (arith, nat_tests) in
-    let run = run_over Digit text (s + 1) l.1 t (over text s (l.0 ∷ []) (l.1 ++ t) stands) l.4 in
-    let e : int_end text s ≡ run_end Digit text (s + 1) = ap (λ v. cond v (s + 1) (cond (digit1_9 (byte_at text s)) (run_end Digit text (s + 1)) s)) apart
-    ∙ ap (λ v. cond v (run_end Digit text (s + 1)) s) is in
+    let run = run_over digit text (s + 1) l.1 t (over text s (l.0 ∷ []) (l.1 ++ t) stands) l.4 in
+    let e : int_end text s ≡ run_end digit text (s + 1) = ap (λ v. cond v (s + 1) (cond (digit1_9 (byte_at text s)) (run_end digit text (s + 1)) s)) apart
+    ∙ ap (λ v. cond v (run_end digit text (s + 1)) s) is in
     let long = ap length l.2 in
     record { some = omega (arith, long); first = grind (arith, nat_tests); least = omega (arith, e, run, long); exact = λ z. omega (arith, e, run, long, z) }
 
@@ -81,14 +79,14 @@ frac_over text p f t h (inl none) =
     let at : byte_at text p ≡ slice_index_or t 0 0 = first text p t (h ∙ ap (λ z. z ++ t) none) in
     record {
       least = omega (arith, long, on);
-      exact = λ _ d. let e : frac_end text p ≡ p = ap (λ v. cond (v && digit (byte_at text (p + 1))) (run_end Digit text (p + 1)) p) (ap decimal_point at ∙ d) in omega (arith, e, long);
+      exact = λ _ d. let e : frac_end text p ≡ p = ap (λ v. cond (v && digit (byte_at text (p + 1))) (run_end digit text (p + 1)) p) (ap decimal_point at ∙ d) in omega (arith, e, long);
     }
 frac_over text p f t h (inr o) =
     let l = frac_led f o in
     let stands = h ∙ ap (λ z. z ++ t) l.2 in
     let point = ap decimal_point (first text p (l.0 ∷ (l.1 ++ t)) stands) ∙ l.3 in
     let run = digits_run text (p + 1) l.1 t (over text p (l.0 ∷ []) (l.1 ++ t) stands) l.4 in
-    let e : frac_end text p ≡ run_end Digit text (p + 1) = ap (λ v. cond v (run_end Digit text (p + 1)) p) (and_from _ _ point run.0) in
+    let e : frac_end text p ≡ run_end digit text (p + 1) = ap (λ v. cond v (run_end digit text (p + 1)) p) (and_from _ _ point run.0) in
     let long = ap length l.2 in
     record { least = omega (arith, e, long, run.1); exact = λ z _. omega (arith, e, long, run.2 z) }
 
@@ -109,7 +107,7 @@ sign_over false text p s ds t h (inr m) g =
     (ap (λ v. cond v (p + 1) p) (or_right (minus (byte_at text p)) (plus (byte_at text p)) is) ∙ ap (λ n. p + n) (sym (ap length m.1)), grind (arith, nat_tests))
 
 exp_over : (v : Bool) (text : List ℕ) (p : ℕ) (x t : List ℕ) → drop p text ≡ x ++ t → ExpOf v x
-    → (y : Exponent) × (exp_at text p ≡ Some y) × (p + length x ≤ y.end) × (y.negative ≡ v)
+    → (y : Told) × (exp_at text p ≡ Some y) × (p + length x ≤ y.end) × (y.kind ≡ cond v NegativeExponential PositiveExponential)
 exp_over v text p x t h o =
     let l = exp_led v x o in
     let q = l.4 in
@@ -120,8 +118,8 @@ exp_over v text p x t h o =
     let at : drop (after_sign text (p + 1)) text ≡ q.1 ++ t = ap (λ n. drop n text) sign.0 ∙ over text (p + 1) q.0 (q.1 ++ t) rest in
     let run = digits_run text (after_sign text (p + 1)) q.1 t at q.4 in
     let long = ap length (l.2 ∙ ap (λ z. l.0 ∷ z) q.2) in
-    let y : Exponent = record { negative = minus (byte_at text (p + 1)); end = run_end Digit text (after_sign text (p + 1)) } in
-    (y, ap (λ w. cond w (Some y) None) (and_from _ _ mark run.0), omega (arith, long, length-append q.0 q.1, sign.0, run.1), sign.1)
+    let y : Told = record { kind = cond (minus (byte_at text (p + 1))) NegativeExponential PositiveExponential; end = run_end digit text (after_sign text (p + 1)) } in
+    (y, ap (λ w. cond w (Some y) None) (and_from _ _ mark run.0), omega (arith, long, length-append q.0 q.1, sign.0, run.1), ap (λ w. cond w NegativeExponential PositiveExponential) sign.1)
 
 -- what goes on after an int
 exp_stops : (v : Bool) (x t : List ℕ) → ExpOf v x → (prefix_len digit (x ++ t) ≡ 0) × (decimal_point (slice_index (x ++ t) 0) ≡ false)
@@ -153,14 +151,14 @@ data Shape : Kind → List ℕ → List ℕ → Type 0 where
 abbrev Over : ℕ → Kind → Told → Type 0
 Over end kind t = (end ≤ t.end) × (t.end ≡ end → t.kind ≡ kind)
 
-no_exp : (int frac end : ℕ) (kind : Kind) (o : Option Exponent) → IfSome o (λ y. frac < y.end) → end ≤ frac → (frac ≡ end → cond (frac == int) Decimal Float ≡ kind)
+no_exp : (int frac end : ℕ) (kind : Kind) (o : Option Told) → IfSome o (λ y. frac < y.end) → end ≤ frac → (frac ≡ end → cond (frac == int) Decimal Float ≡ kind)
     → Over end kind (told_number int frac o)
 no_exp int frac end kind None more low is = (low, is)
 no_exp int frac end kind (Some y) more low is = (omega arith, λ e. absurd (omega arith))
 
-more : (text : List ℕ) (frac : ℕ) (o : Option Exponent) → IfSome o (IsExp text frac) → IfSome o (λ y. frac < y.end)
+more : (text : List ℕ) (frac : ℕ) (o : Option Told) → IfSome o (IsExp text frac) → IfSome o (λ y. frac < y.end)
 more text frac None h = tt
-more text frac (Some y) h = h.1
+more text frac (Some y) h = h.3
 
 told_over : {kind : Kind} (text : List ℕ) (s : ℕ) (i f x t : List ℕ) → drop s text ≡ i ++ (f ++ (x ++ t)) → IntOver text s i (f ++ (x ++ t)) → Shape kind f x
     → Over (s + (length i + (length f + length x))) kind (told_number (int_end text s) (frac_end text (int_end text s)) (exp_at text (frac_end text (int_end text s))))
@@ -193,7 +191,7 @@ told_over text s i f x t h io (exponent v q o) =
     let on : drop frac text ≡ x ++ t = ap (λ n. drop n text) b ∙ over text int f (x ++ t) at in
     let y = exp_over v text frac x t on o in
     subst (λ z. Over (s + (length i + (length f + length x))) (cond v NegativeExponential PositiveExponential) (told_number int frac z)) (sym y.1)
-    (omega (arith, a, b, y.2), λ _. ap (λ w. cond w NegativeExponential PositiveExponential) y.3)
+    (omega (arith, a, b, y.2), λ _. y.3)
 
 start_over : (text : List ℕ) (p : ℕ) (m i t : List ℕ) → drop p text ≡ m ++ (i ++ t) → optional (one minus) m → Int i → int_start text p ≡ p + length m
 start_over text p m i t h (inl none) g =

@@ -7,8 +7,6 @@ use Rattle.std.proofs.lemmas.Bool.{cond_both, eqb-true, eqb-false, eq-eqb, ne_eq
 use Rattle.std.proofs.lemmas.Bool.Decides.{nat_tests}
 use Rattle.kinds.specs.declared.kind.Kind.TheVariants.{Decimal, Float, PositiveExponential, NegativeExponential}
 use Rattle.tokens.specs.declared.token_reader.Told.{Told}
-use Rattle.tokens.specs.declared.json.ByteClass.TheVariants.{Digit}
-use Rattle.tokens.specs.declared.json.Exponent.{Exponent}
 use Rattle.tokens.specs.Json.{run_end, int_start, int_end, frac_end, after_sign, exp_at, told_number, number_from, number_at}
 use Rattle.tokens.specs.Grammar.{digit, minus, plus, zero_digit, decimal_point, digit1_9, exp_mark, Digits, Int, Frac, NumberOf, decimal, float, negative, positive}
 use Rattle.tokens.specs.Rules.{byte_at, between, Rule, one, many, ◌then◌, optional, Stands}
@@ -25,21 +23,21 @@ leading_many : (p : ℕ → Bool) (xs : List ℕ) → many p (take (prefix_len p
 leading_many p [] = tt
 leading_many p (x ∷ xs) = step p x xs (p x) refl (leading_many p xs)
 
-many_at : (text : List ℕ) (from : ℕ) → many digit (between text from (run_end Digit text from))
+many_at : (text : List ℕ) (from : ℕ) → many digit (between text from (run_end digit text from))
 many_at text from =
-    let n : prefix_len digit (drop from text) ≡ run_end Digit text from - from = omega arith in
+    let n : prefix_len digit (drop from text) ≡ run_end digit text from - from = omega arith in
     subst (λ k. many digit (take k (drop from text))) n (leading_many digit (drop from text))
 
-digits_at : (text : List ℕ) (from : ℕ) → digit (byte_at text from) ≡ true → Digits (between text from (run_end Digit text from))
+digits_at : (text : List ℕ) (from : ℕ) → digit (byte_at text from) ≡ true → Digits (between text from (run_end digit text from))
 digits_at text from h =
     let some = (digit_ascii (byte_at text from) h).0 in
     let on = prefix_len-drop_yes digit text from 0 (byte_inside text from some) h in
-    let e : run_end Digit text (from + 1) ≡ run_end Digit text from = omega (arith, on) in
+    let e : run_end digit text (from + 1) ≡ run_end digit text from = omega (arith, on) in
     subst (λ n. Digits (between text from n)) e
-    (then_at (one digit) (many digit) text from (from + 1) (run_end Digit text (from + 1)) (omega arith) (omega arith) (one_at digit text from some h) (many_at text (from + 1)))
+    (then_at (one digit) (many digit) text from (from + 1) (run_end digit text (from + 1)) (omega arith) (omega arith) (one_at digit text from some h) (many_at text (from + 1)))
 
-digits_inside : (text : List ℕ) (from : ℕ) → digit (byte_at text from) ≡ true → run_end Digit text from ≤ length text
-digits_inside text from h = let some = byte_inside text from (digit_ascii (byte_at text from) h).0 in run_inside Digit text from (omega arith)
+digits_inside : (text : List ℕ) (from : ℕ) → digit (byte_at text from) ≡ true → run_end digit text from ≤ length text
+digits_inside text from h = let some = byte_inside text from (digit_ascii (byte_at text from) h).0 in run_inside digit text from (omega arith)
 
 abbrev IsInt : List ℕ → ℕ → ℕ → Type 0
 IsInt text start end = (end ≢ start) → Int (between text start end) × (start < end) × (end ≤ length text)
@@ -51,9 +49,9 @@ int_is text start =
     (inl (one_at zero_digit text start some e), omega arith, omega (arith, byte_inside text start some)))
     (λ _. cond_both (digit1_9 (byte_at text start)) _ _ (IsInt text start)
     (λ e _. let some : 0 < byte_at text start = grind (arith, nat_tests) in (
-      inr (then_at (one digit1_9) (many digit) text start (start + 1) (run_end Digit text (start + 1)) (omega arith) (omega arith) (one_at digit1_9 text start some e) (many_at text (start + 1))),
+      inr (then_at (one digit1_9) (many digit) text start (start + 1) (run_end digit text (start + 1)) (omega arith) (omega arith) (one_at digit1_9 text start some e) (many_at text (start + 1))),
       omega arith,
-      run_inside Digit text (start + 1) (omega (arith, byte_inside text start some)),
+      run_inside digit text (start + 1) (omega (arith, byte_inside text start some)),
     ))
     (λ _ apart. absurd (apart refl)))
 
@@ -65,7 +63,7 @@ frac_is : (text : List ℕ) (int : ℕ) → IsFrac text int (frac_end text int)
 frac_is text int =
     cond_both (decimal_point (byte_at text int) && digit (byte_at text (int + 1))) _ _ (IsFrac text int)
     (λ e. let b = and_parts (decimal_point (byte_at text int)) (digit (byte_at text (int + 1))) e in inr (
-      then_at (one decimal_point) Digits text int (int + 1) (run_end Digit text (int + 1)) (omega arith) (omega arith)
+      then_at (one decimal_point) Digits text int (int + 1) (run_end digit text (int + 1)) (omega arith) (omega arith)
           (one_at decimal_point text int (omega (arith, eqb-true (byte_at text int) 46 b.0)) b.0) (digits_at text (int + 1) b.1),
       omega arith,
       digits_inside text (int + 1) b.1,
@@ -101,8 +99,10 @@ sign_by text place false false m p = (inl (between_empty text place), omega arit
 sign_is : (text : List ℕ) (place : ℕ) → SignOf (minus (byte_at text place)) (between text place (after_sign text place)) × (place ≤ after_sign text place)
 sign_is text place = sign_by text place (minus (byte_at text place)) (plus (byte_at text place)) refl refl
 
-abbrev pub IsExp : List ℕ → ℕ → Exponent → Type 0
-IsExp text frac x = ExpOf x.negative (between text frac x.end) × (frac < x.end) × (x.end ≤ length text)
+-- a number that is told of an exponent from there on: of the kind of its sign
+abbrev pub IsExp : List ℕ → ℕ → Told → Type 0
+IsExp text frac t =
+    (v : Bool) × (t.kind ≡ cond v NegativeExponential PositiveExponential) × ExpOf v (between text frac t.end) × (frac < t.end) × (t.end ≤ length text)
 
 pub exp_is : (text : List ℕ) (frac : ℕ) → IfSome (exp_at text frac) (IsExp text frac)
 exp_is text frac =
@@ -111,8 +111,10 @@ exp_is text frac =
     (λ e. let b = and_parts (exp_mark (byte_at text frac)) (digit (byte_at text (after_sign text (frac + 1)))) e in
     let mark = b.0 in
     let some : 0 < byte_at text frac = grind (arith, nat_tests) in
-    let end = run_end Digit text (after_sign text (frac + 1)) in
+    let end = run_end digit text (after_sign text (frac + 1)) in
     let on : frac + 1 ≤ after_sign text (frac + 1) = s.1 in (
+      minus (byte_at text (frac + 1)),
+      refl,
       then_at (one exp_mark) (SignOf (minus (byte_at text (frac + 1))) then Digits) text frac (frac + 1) end (omega arith) (omega arith) (one_at exp_mark text frac some mark)
           (then_at (SignOf (minus (byte_at text (frac + 1)))) Digits text (frac + 1) (after_sign text (frac + 1)) end (omega arith) (omega arith) s.0 (digits_at text (after_sign text (frac + 1)) b.1)),
       omega arith,
@@ -172,9 +174,10 @@ exp_number : (text : List ℕ) (place start int frac end : ℕ) (v : Bool) → B
 exp_number text place start int frac end true h x more = negative (whole (ExpOf true) text place start int frac end h x more)
 exp_number text place start int frac end false h x more = positive (whole (ExpOf false) text place start int frac end h x more)
 
-number_told : (text : List ℕ) (place start int frac : ℕ) → Begun text place start int frac → (o : Option Exponent) → IfSome o (IsExp text frac) → IsNumber text place (told_number int frac o)
+number_told : (text : List ℕ) (place start int frac : ℕ) → Begun text place start int frac → (o : Option Told) → IfSome o (IsExp text frac) → IsNumber text place (told_number int frac o)
 number_told text place start int frac h None x = bare_number text place start int frac h h.frac_is
-number_told text place start int frac h (Some y) x = (x.2, exp_number text place start int frac y.end y.negative h x.0 x.1)
+number_told text place start int frac h (Some t) x =
+    (x.4, subst (λ kind. NumberOf kind (between text place t.end)) (sym x.1) (exp_number text place start int frac t.end x.0 h x.2 x.3))
 
 number_from_is : (text : List ℕ) (place start int : ℕ) → IsStart text place start → IsInt text start int → IfSome (number_from text start int) (IsNumber text place)
 number_from_is text place start int s i =

@@ -5,14 +5,13 @@ use Rattle.std.specs.List.{prefix_len}
 use Rattle.std.proofs.lemmas.List.{length-drop, get_or-drop}
 use Rattle.std.proofs.lemmas.Bool.Decides.{nat_tests}
 use Rattle.std.proofs.lemmas.List.Sums.{prefix_len-le-length}
-use Rattle.tokens.specs.declared.json.ByteClass.{ByteClass}
 use Rattle.tokens.specs.Grammar.{digit}
-use Rattle.tokens.specs.Json.{in_class, run_end}
+use Rattle.tokens.specs.Json.{run_end}
 use Rattle.tokens.specs.Rules.{many}
 
 -- a run lies within the text
-pub run_inside : (class : ByteClass) (text : List ℕ) (from : ℕ) → from ≤ length text → run_end class text from ≤ length text
-run_inside class text from h = omega (arith, prefix_len-le-length (in_class class) (drop from text), length-drop from text)
+pub run_inside : (class : ℕ → Bool) (text : List ℕ) (from : ℕ) → from ≤ length text → run_end class text from ≤ length text
+run_inside class text from h = omega (arith, prefix_len-le-length class (drop from text), length-drop from text)
 
 pub digit_ascii : (b : ℕ) → digit b ≡ true → (0 < b) × (b < 128)
 digit_ascii b h = (grind (arith, nat_tests), grind (arith, nat_tests))
@@ -28,9 +27,9 @@ pub leading_stops : (p : ℕ → Bool) (b : ℕ) (t : List ℕ) → p b ≡ fals
 leading_stops p b t h = ap (λ v. cond v (1 + prefix_len p t) 0) h
 
 -- a run goes over bytes of its class and on
-pub run_over : (class : ByteClass) (text : List ℕ) (from : ℕ) (xs t : List ℕ) → drop from text ≡ xs ++ t → many (in_class class) xs
-    → run_end class text from ≡ from + (length xs + prefix_len (in_class class) t)
-run_over class text from xs t h m = ap (λ z. from + prefix_len (in_class class) z) h ∙ ap (λ n. from + n) (leading_over (in_class class) xs t m)
+pub run_over : (class : ℕ → Bool) (text : List ℕ) (from : ℕ) (xs t : List ℕ) → drop from text ≡ xs ++ t → many class xs
+    → run_end class text from ≡ from + (length xs + prefix_len class t)
+run_over class text from xs t h m = ap (λ z. from + prefix_len class z) h ∙ ap (λ n. from + n) (leading_over class xs t m)
 
 pub leading_none : (p : ℕ → Bool) (xs : List ℕ) → p (slice_index xs 0) ≡ false → prefix_len p xs ≡ 0
 leading_none p [] h = refl
@@ -45,6 +44,6 @@ leading_ends p none [] = none
 leading_ends p none (x ∷ xs) = end_step p x xs (p x) refl (leading_ends p none xs)
 
 -- the byte after a run is not of its class
-pub run_ends : (class : ByteClass) (text : List ℕ) (from : ℕ) → in_class class 0 ≡ false → in_class class (slice_index text (run_end class text from)) ≡ false
+pub run_ends : (class : ℕ → Bool) (text : List ℕ) (from : ℕ) → class 0 ≡ false → class (slice_index text (run_end class text from)) ≡ false
 run_ends class text from none =
-    ap (in_class class) (sym (get_or-drop from text (prefix_len (in_class class) (drop from text)) 0)) ∙ leading_ends (in_class class) none (drop from text)
+    ap class (sym (get_or-drop from text (prefix_len class (drop from text)) 0)) ∙ leading_ends class none (drop from text)

@@ -7,14 +7,14 @@ use Rattle.std.proofs.lemmas.Bool.Decides.{nat_tests}
 use Rattle.tokens.specs.Grammar.{escape, quote, Chars, no_char, unescaped_char, escaped_char}
 use Rattle.tokens.specs.Json.{control, string_from}
 
-pub string_more : (escaped : Bool) (text : List ℕ) (i : ℕ) → i < length text
-    → string_from escaped i (drop i text)
-    ≡ cond escaped (string_from false (i + 1) (drop (i + 1) text)) (cond (slice_index text i == 34) (Some (i + 1))
-    (cond (nat_lt (slice_index text i) 32) None (string_from (slice_index text i == 92) (i + 1) (drop (i + 1) text))))
-string_more escaped text i h = at_drop_more (string_from escaped i) text i 0 h
+pub string_more : (escaped : Bool) (place : ℕ) (bs : List ℕ) (i : ℕ) → i < length bs
+    → string_from escaped place (drop i bs)
+    ≡ cond escaped (string_from false (place + 1) (drop (i + 1) bs)) (cond (slice_index bs i == 34) (Some (place + 1))
+    (cond (nat_lt (slice_index bs i) 32) None (string_from (slice_index bs i == 92) (place + 1) (drop (i + 1) bs))))
+string_more escaped place bs i h = at_drop_more (string_from escaped place) bs i 0 h
 
-pub string_all : (escaped : Bool) (text : List ℕ) (i : ℕ) → length text ≤ i → string_from escaped i (drop i text) ≡ None
-string_all escaped text i h = at_drop_all (string_from escaped i) text i h
+pub string_all : (escaped : Bool) (place : ℕ) (bs : List ℕ) (i : ℕ) → length bs ≤ i → string_from escaped place (drop i bs) ≡ None
+string_all escaped place bs i h = at_drop_all (string_from escaped place) bs i h
 
 -- the characters up to the closing quote; the first byte may be escaped
 abbrev Body : Bool → List ℕ → Type 0

@@ -1,51 +1,57 @@
 // The layout of a recorded token in eleven bytes: the mark, the kind's number, the start and the end.
-ghost use Rattle.std.specs.Prelude.{◌≡◌, ◌+◌, ◌≤◌, length, IfSome, Some};
-ghost use Rattle.tokens.specs.Layout.{little_endian, marked, record_of, Spells};
-ghost use Rattle.tokens.specs.declared.layout.Record.{Record};
+ghost use Rattle.std.specs.Prelude.{◌≡◌};
+ghost use Rattle.tokens.specs.Layout.{GivesRecord};
+ghost use Rattle.tokens.specs.declared.layout.NotARecord.{NotARecord};
 
-use kinds::kind::Kind;
+use kinds::kind::{Kind, UnknownKind};
+use std::error::Error;
+use std::fmt;
 
 // How many bytes a record has.
 pub const RECORD_LEN: usize = 11;
 
 // A recorded token: its kind, and the places where it starts and ends.
-#[derive(Clone, Copy)]
+#[derive(Clone, Copy, Debug, PartialEq, Eq)]
 pub struct Record {
     pub kind: Kind,
     pub start: u32,
     pub end: u32,
 }
 
-fn little_endian(bytes: &[u8], at: usize) -> u32
-    requires { at + 4 ≤ length bytes.now }
-    ensures { result ≡ little_endian bytes.now at }
-{
-    u32::from_le_bytes([bytes[at], bytes[at + 1], bytes[at + 2], bytes[at + 3]])
-}
+// Bytes that spell no record.
+#[derive(Clone, Copy, Debug, PartialEq, Eq)]
+pub struct NotARecord;
 
-fn is_marked(bytes: &[u8]) -> bool
-    ensures { result ≡ marked bytes.now }
-{
-    bytes.len() == RECORD_LEN && bytes[0] == b'T' && bytes[1] == b' '
-}
+// The record that the bytes spell, if they spell one.
+impl TryFrom<&[u8]> for Record {
+    type Error = NotARecord;
 
-impl Record {
-    // The record that the bytes spell, if they spell one.
-    pub fn from_bytes(bytes: &[u8]) -> Option<Record>
-        ensures value { result ≡ record_of bytes.now }
-        ensures spells { IfSome result (Spells bytes.now) }
-        ensures every { (x : Record) → Spells bytes.now x → result ≡ Some x }
-    {
-        if !is_marked(bytes) {
-            return None;
-        }
-        match Kind::from_number(bytes[2]) {
-            Some(kind) => Some(Record {
-                kind,
-                start: little_endian(bytes, 3),
-                end: little_endian(bytes, 7),
+    ghost try_from_gives = { λ bytes r. GivesRecord bytes.now r };
+
+    fn try_from(bytes: &[u8]) -> Result<Record, NotARecord> {
+        match bytes {
+            [b'T', b' ', number, s0, s1, s2, s3, e0, e1, e2, e3] => Ok(Record {
+                kind: Kind::try_from(*number)?,
+                start: u32::from_le_bytes([*s0, *s1, *s2, *s3]),
+                end: u32::from_le_bytes([*e0, *e1, *e2, *e3]),
             }),
-            None => None,
+            _ => Err(NotARecord),
         }
     }
 }
+
+impl From<UnknownKind> for NotARecord {
+    ghost from_gives = { λ _ e. e ≡ record {} };
+
+    fn from(_: UnknownKind) -> NotARecord {
+        NotARecord
+    }
+}
+
+impl fmt::Display for NotARecord {
+    fn fmt<W: fmt::Write>(&self, f: &mut fmt::Formatter<W>) -> fmt::Result {
+        f.write_str("the bytes spell no record")
+    }
+}
+
+impl Error for NotARecord {}

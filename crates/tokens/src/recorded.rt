@@ -1,63 +1,44 @@
 // A token reader that answers from a recorded list: records, one after another, each of a token of the text.
-ghost use Rattle.std.specs.Prelude.{◌≡◌, ◌/◌, ◌<◌, true, length};
-ghost use Rattle.tokens.specs.Layout.{record_of, record_bytes};
-ghost use Rattle.tokens.specs.Recorded.{boundary, counts_for, told_by, recorded_telling, FirstTold};
+ghost use Rattle.std.specs.Prelude.{◌≡◌, true};
+ghost use Rattle.tokens.specs.Layout.{record_of};
+ghost use Rattle.tokens.specs.Recorded.{counts_for, told_by, recorded_telling, FirstTold};
 ghost use Rattle.tokens.specs.FairRecords.{fair_recorded};
 
 use crate::layout::{RECORD_LEN, Record};
 use crate::token_reader::{TokenReader, Told};
 
-// The record at an index of the list, if its bytes spell one.
-fn record_at(list: &[u8], index: usize) -> Option<Record>
-    requires { index < length list.now / 11 }
-    ensures { result ≡ record_of (record_bytes list.now index) }
-{
-    let start = RECORD_LEN * index;
-    Record::from_bytes(&list[start..start + RECORD_LEN])
-}
-
-fn is_boundary(text: &str, place: usize) -> bool
-    ensures { result ≡ boundary text.now place }
-{
-    text.is_char_boundary(place)
-}
-
 // Whether the record keeps the laws of a token reader over the text.
 fn counts(text: &str, recorded: Record) -> bool
     ensures { result ≡ counts_for text.now recorded }
 {
-    recorded.kind.number() >= 4
+    u8::from(recorded.kind) >= 4
         && recorded.start < recorded.end
-        && is_boundary(text, recorded.start as usize)
-        && is_boundary(text, recorded.end as usize)
+        && text.is_char_boundary(recorded.start as usize)
+        && text.is_char_boundary(recorded.end as usize)
 }
 
-fn told_by(text: &str, place: usize, recorded: Option<Record>) -> Option<Told>
-    ensures { result ≡ told_by text.now place recorded }
+// What the bytes of a record tell at the place, if they spell one.
+fn told_by(text: &str, place: usize, bytes: &[u8]) -> Option<Told>
+    ensures { result ≡ told_by text.now place (record_of bytes.now) }
 {
-    match recorded {
-        Some(it) if it.start as usize == place && counts(text, it) => Some(Told {
-            kind: it.kind,
-            end: it.end as usize,
-        }),
-        _ => None,
-    }
+    let it = Record::try_from(bytes).ok()?;
+    let tells = it.start as usize == place && counts(text, it);
+    tells.then_some(Told {
+        kind: it.kind,
+        end: it.end as usize,
+    })
 }
 
 // What the first record tells that tells a token at the place.
 fn first_told(list: &[u8], text: &str, place: usize) -> Option<Told>
     ensures { result ≡ recorded_telling list.now text.now place }
 {
-    for index in 0..list.len() / RECORD_LEN {
-        if let Some(t) = told_by(text, place, record_at(list, index)) {
-            return Some(t);
-        }
-    }
-    None
+    list.chunks_exact(RECORD_LEN)
+        .find_map(|bytes| told_by(text, place, bytes))
 }
 
 // A list of records, each a token of a text.
-#[derive(Clone, Copy)]
+#[derive(Clone, Copy, Debug, PartialEq, Eq)]
 pub struct RecordedList<'a> {
     list: &'a [u8],
 }

@@ -5,7 +5,7 @@ ghost use Rattle.tokens.specs.Telling.{Telling, FairAt};
 use kinds::kind::Kind;
 
 // A token that stands at a place: its kind, and the place right after it.
-#[derive(Clone, Copy)]
+#[derive(Clone, Copy, Debug, PartialEq, Eq)]
 pub struct Told {
     pub kind: Kind,
     pub end: usize,

@@ -1,19 +1,13 @@
-use Rattle.std.proofs.Common.{sym, arith}
-use Rattle.std.proofs.lemmas.List.Sums.{prefix_len-drop_yes, prefix_len-drop_no, prefix_len-drop_all}
-use Rattle.tokens.specs.Json.{in_class}
+use Rattle.std.proofs.Common.{◌+◌, ap, ◌∙◌, drop, rules}
+use Rattle.std.proofs.lemmas.Iterator.{YieldsList-from_slice}
+use Rattle.std.proofs.lemmas.Iterator.Consumers.{count_from_yields_List, YieldsList-from_copied}
+use Rattle.std.proofs.lemmas.Iterator.Search.{YieldsList-from_take_while}
+use Rattle.std.proofs.lemmas.List.Folds.{length-prefix_len}
 use Rattle.tokens.proofs.json.end_of_run.Goals as goal
 
-pub loop-end-preserved : goal.loop-end-preserved
-loop-end-preserved c =
-    let e = prefix_len-drop_yes (in_class c.args.class) c.args.bytes.now c.loop-end.end 0 (omega arith) (sym c.if-in_class.ensures) in
-    omega (arith, e, c.loop-end.invariant)
-
-pub returns-else-in_class : goal.returns-else-in_class
-returns-else-in_class c =
-    let e = prefix_len-drop_no (in_class c.args.class) c.args.bytes.now c.loop-end.end 0 (omega arith) (sym c.if-in_class.ensures) in
-    omega (arith, e, c.loop-end.invariant)
-
-pub returns-after-loop-end : goal.returns-after-loop-end
-returns-after-loop-end c =
-    let e = prefix_len-drop_all (in_class c.args.class) c.args.bytes.now c.loop-end.end (omega arith) in
-    omega (arith, e, c.loop-end.invariant)
+pub returns : goal.returns
+returns g c = λ class computes.
+    let left = drop c.args.from c.args.bytes.now in
+    let run = YieldsList-from_take_while _ class (YieldsList-from_copied (YieldsList-from_slice left cc)) c.take_while-run.ensures.closure c.take_while-run.ensures.done
+    (λ x b q k. (g.met.F.Fn.1.step_stays _ _ _ _ k.called, computes x b (record { shown = k.shown; shows = k.shows; says = record { met = (g.met.F.FnMut.1.post_iff _ _ _).1 (q, k.called) } }))) in
+    ap (λ n. c.args.from + n) (count_from_yields_List c.take_while-run.result _ c.count.ensures.ran run ∙ length-prefix_len class left)

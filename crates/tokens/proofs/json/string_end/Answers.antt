@@ -1,26 +1,21 @@
-use Rattle.std.proofs.Common.{sym, ◌∙◌, arith}
+use Rattle.std.proofs.Common.{◌+◌, arith}
 use Rattle.std.proofs.lemmas.Bool.Decides.{nat_tests}
-use Rattle.tokens.specs.Strings.{string_more, string_all}
+use Rattle.tokens.specs.Strings.{string_more}
 use Rattle.tokens.proofs.json.string_end.Goals as goal
-use Rattle.tokens.proofs.json.string_end.Goals.{then-escaped, else-escaped+else-b-eq34+else-is_control}
+use Rattle.tokens.proofs.json.string_end.Goals.{then-escaped, else-escaped+in-92, else-escaped+in_default+else-b-lt32}
 
-pub returns-then-b-eq34 : goal.returns-then-b-eq34
-returns-then-b-eq34 c =
-    let e = string_more c.loop-place.escaped c.args.bytes.now c.loop-place.place (omega arith) in
-    let i = c.loop-place.invariant in
+pub returns-in-34 : goal.returns-in-34
+returns-in-34 c =
+    let e = string_more c.loop-i.escaped (c.args.from + c.loop-i.i) c.rest-b-items.result.now c.loop-i.i c.loop-i-test.true in
+    let i = c.loop-i.invariant in
     grind (arith, nat_tests)
 
-pub returns-then-is_control : goal.returns-then-is_control
-returns-then-is_control c =
-    let e = string_more c.loop-place.escaped c.args.bytes.now c.loop-place.place (omega arith) in
-    let i = c.loop-place.invariant in
-    grind (arith, nat_tests)
-
-pub loop-place-preserved : goal.loop-place-preserved
-loop-place-preserved c =
-    let e = string_more c.loop-place.escaped c.args.bytes.now c.loop-place.place (omega arith) in
-    let i = c.loop-place.invariant in
-    elim c.if-escaped.branch [ then-escaped w ↦ grind (arith, nat_tests) | else-escaped+else-b-eq34+else-is_control w ↦ grind (arith, nat_tests) ]
-
-pub returns : goal.returns
-returns c = sym (string_all c.loop-place.escaped c.args.bytes.now c.loop-place.place (omega arith)) ∙ c.loop-place.invariant
+pub loop-i-preserved : goal.loop-i-preserved
+loop-i-preserved c =
+    let e = string_more c.loop-i.escaped (c.args.from + c.loop-i.i) c.rest-b-items.result.now c.loop-i.i c.loop-i-test.true in
+    let i = c.loop-i.invariant in
+    elim c.if-escaped.branch [
+      | then-escaped w ↦ grind (arith, nat_tests)
+      | else-escaped+in-92 w ↦ grind (arith, nat_tests)
+      | else-escaped+in_default+else-b-lt32 w ↦ grind (arith, nat_tests)
+    ]

@@ -1,20 +1,17 @@
-use Rattle.std.proofs.Common.{suc, ◌/◌, length, sym, ap, ◌∙◌, add-one, arith}
-use Rattle.tokens.specs.Recorded.{first_of}
-use Rattle.tokens.proofs.FirstTelling.{first_more, first_stays}
+use Rattle.std.proofs.Common.{◌≡◌, ◌<◌, List, ap, ◌∙◌, subst, arith, rules}
+use Rattle.std.specs.Iterator.Runs.{IsChunksExactRun}
+use Rattle.std.specs.Slice.Iter.{chunks_exact_rest, chunks_exact_size}
+use Rattle.tokens.proofs.FirstTelling.{first_given}
 use Rattle.tokens.proofs.recorded.first_told.Goals as goal
 
-pub returns-in-Some : goal.returns-in-Some
-returns-in-Some c =
+pub returns : goal.returns
+returns c =
     let list = c.args.list.now in
-    let text = c.args.text.now in
-    let place = c.args.place in
-    let here = first_more list text place c.loop-index.index c.record_at.result c.told_by.result c.loop-index.invariant c.record_at.ensures c.told_by.ensures in
-    sym (first_stays list text place (suc c.loop-index.index) (length list / 11) c.in-Some.t (omega arith) (here ∙ c.in-Some.is))
-
-pub loop-index-preserved : goal.loop-index-preserved
-loop-index-preserved c =
-    let list = c.args.list.now in
-    let text = c.args.text.now in
-    let place = c.args.place in
-    let here = first_more list text place c.loop-index.index c.record_at.result c.told_by.result c.loop-index.invariant c.record_at.ensures c.told_by.ensures in
-    ap (first_of list text place) (add-one c.loop-index.index) ∙ (here ∙ c.in_default.is)
+    let run = c.find_map.ensures.runs in
+    let p = run.0 in
+    let size : chunks_exact_size p.from ≡ 11 = ap chunks_exact_size run.1 ∙ c.chunks_exact.ensures.size in
+    let rest : chunks_exact_rest p.from ≡ list = ap chunks_exact_rest run.1 ∙ c.chunks_exact.ensures.rest in
+    let cut = c.chunks_exact.ensures.runs p p.seen (omega (arith, size)) in
+    let chunks : IsChunksExactRun p 11 list =
+    subst (λ xs. IsChunksExactRun p 11 xs) rest (subst (λ n. IsChunksExactRun p n (chunks_exact_rest p.from)) size cut) in
+    first_given list c.args.text.now c.args.place p chunks _ _ c.args.list c.find_map.result run.2 (λ x o f told. search rules)
