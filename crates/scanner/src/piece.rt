@@ -129,8 +129,8 @@ fn white_from<'a>(source: &Source<'a>, c: char) -> Option<Piece<'a>>
             line_break_handler(source.whole().as_bytes(), start + 1),
             Trivia::LineBreak,
         ),
-        c if is_irregular_whitespace(c) => (start + c.len_utf8(), Trivia::IrregularWhitespace),
-        c if is_irregular_line_terminator(c) => (start + c.len_utf8(), Trivia::IrregularLineBreak),
+        _ if is_irregular_whitespace(c) => (start + c.len_utf8(), Trivia::IrregularWhitespace),
+        _ if is_irregular_line_terminator(c) => (start + c.len_utf8(), Trivia::IrregularLineBreak),
         _ => return None,
     };
     Some(Piece { start, end, trivia })
