@@ -36,6 +36,6 @@ module _ {R : Type 0} (f : R → R) where
   -- an index past the other changes nothing
   pub over_min : (from to : ℕ) (rows : List R) → over f (min from to) to rows ≡ over f from to rows
   over_min from to rows = ⊎_elim
-    (λ (some : from < to). let e : min from to ≡ from = omega arith in ap (λ (k : ℕ). over f k to rows) e)
-    (λ (none : to ≤ from). over_none (min from to) to rows (omega arith) ∙ sym (over_none from to rows none))
-    (cases_lt from to)
+      (λ (some : from < to). let e : min from to ≡ from = omega arith in ap (λ (k : ℕ). over f k to rows) e)
+      (λ (none : to ≤ from). over_none (min from to) to rows (omega arith) ∙ sym (over_none from to rows none))
+      (cases_lt from to)
