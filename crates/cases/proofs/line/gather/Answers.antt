@@ -11,10 +11,10 @@ use Rattle.cases.proofs.line.gather.Goals as goal
 pub returns-in_err-bytes-clause-malformed : goal.returns-in_err-bytes-clause-malformed
 returns-in_err-bytes-clause-malformed g c =
     λ b h e.
+    let none = (h c.in-Some.field.now (Err c.in_err-bytes.field-0.0) (says_at g.F.Fn c.in_err-bytes.ensures refl)).1 (search rules) in
     let road = YieldsList-from_str_split 32 c.args.fields.now (lit< tt) (cc) (cc) (cc) in
     let turn = YieldsList-turn road c.loop-field.yielded _ c.loop-field.yielded_by _ _ c.in-Some.field c.in-Some.is c.next.ensures.steps in
-    gathered_none b (fields_of c.args.fields.now) (length c.loop-field.yielded) c.in-Some.field.now turn.0
-    (ap b (sym turn.1) ∙ (h c.in-Some.field.now (Err c.in_err-bytes.field-0.0) (says_at g.F.Fn c.in_err-bytes.ensures refl)).1 (search rules))
+    gathered_none b (fields_of c.args.fields.now) (length c.loop-field.yielded) c.in-Some.field.now turn.0 (ap b (sym turn.1) ∙ none)
 
 pub loop-field-preserved : goal.loop-field-preserved
 loop-field-preserved g c =
