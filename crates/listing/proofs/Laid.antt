@@ -58,6 +58,3 @@ laid_at front (b ∷ buffer) (x ∷ xs) fits =
 
 pub laid_whole : (buffer xs : List ℕ) → length xs ≤ length buffer → laid buffer 0 xs ≡ xs ++ drop (length xs) buffer
 laid_whole buffer xs fits = laid_at [] buffer xs fits
-
-pub wrote_none : (buffer : List ℕ) (o : Out) → o.len ≡ 0 → o.bytes.now ≡ buffer → Wrote buffer [] o
-wrote_none buffer o none same = record { long = none; bytes = same }

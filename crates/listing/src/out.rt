@@ -1,7 +1,8 @@
 // Bytes written one after another into a buffer; what does not fit is only counted.
 ghost use Rattle.std.specs.Prelude.{◌≡◌, ◌^◌, ◌<◌, [], ◌∷◌, length, decimal, slice_set};
-ghost use Rattle.listing.specs.Bytes.{Writes, fields_of, line_of};
+ghost use Rattle.listing.specs.Bytes.{Wrote, Writes, fields_of, line_of};
 
+// The buffer is the caller's, since no call allocates, and the count goes on past its end.
 #[derive(Drop)]
 pub struct Out<'a> {
     bytes: &'a mut [u8],
@@ -10,8 +11,7 @@ pub struct Out<'a> {
 
 impl<'a> Out<'a> {
     pub(crate) fn new(bytes: &'a mut [u8]) -> Self
-        ensures bytes { result.bytes.now ≡ bytes.old }
-        ensures len { result.len ≡ 0 }
+        ensures wrote { Wrote bytes.old [] result }
         ensures lender { result.bytes.ghost_name ≡ bytes.entry.ghost_name }
     {
         Out { bytes, len: 0 }
