@@ -6,6 +6,7 @@ use Rattle.refusals.specs.declared.Refusal.{Refusal}
 use Rattle.source.specs.Rfc3629.{Utf8Octets}
 use Rattle.source.specs.View.{text_of, place_of}
 use Rattle.table.specs.declared.Appended.{Appended}
+use Rattle.table.specs.declared.Full.{Full}
 use Rattle.table.specs.declared.Table.{Table}
 use Rattle.table.specs.View.{rows_of, count_of}
 use Rattle.table.specs.Order.{starts, last_start, outcome, rows_with, count_with}
@@ -70,7 +71,7 @@ pub record OpenedOctets (bytes : List ℕ) (limit : ℕ) (r : Reader) : Type 0 w
 abbrev pub row_of : Found → TriviaBuilder → TokenRow
 row_of f b = record { token = f.token; pure_comments = b.pure_comments; no_side_effects_comments = b.no_side_effects_comments; unterminated = f.unterminated }
 
-abbrev pub token_outcome : Table TokenRow → TokenRow → Appended
+abbrev pub token_outcome : Table TokenRow → TokenRow → Result Appended Full
 token_outcome t row = outcome (λ (r : TokenRow). r.token.start) (rows_of t) (count_of t) row
 
 -- the builder of a reader with its tables, both ranges emptied
@@ -95,11 +96,6 @@ pub record Taken (f : Found) (r r' : Reader) (t t' : Tables) : Type 0 where
 abbrev pub ReadTo : Result Found Refusal → Reader → Reader → Tables → Tables → Type 0
 ReadTo (Ok f) r r' t t' = Taken f r r' t t'
 ReadTo (Err e) r r' t t' = (r' ≡ r) × (t' ≡ t)
-
--- where a token was taken, just the pieces of the gap, in their order, and then the token were fed to the builder
-abbrev pub PiecesFed : Result Found Refusal → Reader → Reader → Tables → Tables → Type 0
-PiecesFed (Ok f) r r' t t' = FedToken f r r' t t'
-PiecesFed (Err e) r r' t t' = Unit {0}
 
 -- the rows are lent by whom they were
 abbrev pub SameLenders : Tables → Tables → Type 0

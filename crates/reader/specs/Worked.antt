@@ -1,5 +1,5 @@
 -- Readings worked out by hand, from the bytes of a text to its comment rows and its last token.
-use Rattle.std.specs.Prelude.{◌≡◌, ℕ, zero, suc, ◌+◌, Bool, true, false, cond, ◌&&◌, List, [], ◌∷◌, ◌++◌, map, length, take, replicate, Some, None, codes, Option, ◌==◌, nat_le, slice_index, slice_set}
+use Rattle.std.specs.Prelude.{◌≡◌, ℕ, zero, suc, ◌+◌, Bool, true, false, cond, ◌&&◌, List, [], ◌∷◌, ◌++◌, map, length, take, replicate, Some, None, codes, Option, ◌==◌, nat_le, slice_index}
 use Rattle.kinds.specs.declared.kind.Kind.{Kind}
 use Rattle.kinds.specs.declared.kind.Kind.TheVariants.{Eof, Ident, Eq, Plus}
 use Rattle.comments.specs.declared.comment.Comment.{Comment}
@@ -10,7 +10,7 @@ use Rattle.comments.specs.declared.comment.CommentContent.TheVariants as class
 use Rattle.comments.specs.declared.comment.CommentPosition.{CommentPosition}
 use Rattle.comments.specs.declared.comment.CommentPosition.TheVariants.{Leading, Trailing}
 use Rattle.builder.specs.Rows.{no_comment}
-use Rattle.builder.specs.Building.{State, opened, row_for, taken, taken_rows, newline_to, token_to, block_of}
+use Rattle.builder.specs.Building.{State, opened, row_for, added_to, newline_to, token_to, block_of}
 use Rattle.scanner.specs.Ecma.{Shape, space, newline, irregular_space, irregular_newline, line, block, Placed}
 use Rattle.scanner.specs.Gaps.{gap_from, measured}
 use Rattle.tokens.specs.Telling.{Telling}
@@ -20,21 +20,13 @@ use Rattle.reader.specs.Reading.{found, token_after}
 
 -- ---- a reading in order, with rows enough, as the definitions give it
 
--- a new comment
-abbrev noted : State → Comment → State
-noted s row = record {
-  builder = taken s.builder (slice_set s.rows s.count row) s.count row;
-  rows = taken_rows s.builder (slice_set s.rows s.count row) s.count row;
-  count = s.count + 1;
-}
-
 abbrev fed_shape : List ℕ → State → ℕ → ℕ → Shape → State
 fed_shape text s start end space = s
 fed_shape text s start end newline = newline_to s
 fed_shape text s start end irregular_space = s
 fed_shape text s start end irregular_newline = newline_to s
-fed_shape text s start end (line bytes) = noted s (row_for text s.builder start (start + length bytes) Line)
-fed_shape text s start end (block multi bytes) = noted s (row_for text s.builder start end (block_of multi))
+fed_shape text s start end (line bytes) = added_to s (row_for text s.builder start (start + length bytes) Line)
+fed_shape text s start end (block multi bytes) = added_to s (row_for text s.builder start end (block_of multi))
 
 abbrev fed_pieces : List ℕ → State → List Placed → State
 fed_pieces text s [] = s

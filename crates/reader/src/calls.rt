@@ -2,7 +2,7 @@
 ghost use Rattle.std.specs.Prelude.{◌≡◌, ◌<◌, ◌≤◌, min, length, Err, IsUtf8, IsOkAnd, Option};
 ghost use Rattle.reader.specs.declared.OpenError.TheVariants.{TooLong, NotUtf8};
 ghost use Rattle.reader.specs.Reading.{unless, opening_refusal};
-ghost use Rattle.reader.specs.View.{reader_text, Opened, OpenedOctets, reading, SameLenders, Taken, ReadTo, PiecesFed};
+ghost use Rattle.reader.specs.View.{reader_text, Opened, OpenedOctets, reading, SameLenders, Taken, ReadTo};
 
 use crate::feed::feed_gap;
 use crate::tables::Tables;
@@ -99,7 +99,6 @@ impl<'t> Reader<'t> {
     pub fn read<R: TokenReader>(&mut self, r: &R, tables: &mut Tables<'_>) -> Result<(), Refusal>
         ensures answer { result ≡ unless (reading R.banged (R.telling r.now) self.old tables.old) }
         ensures left { ReadTo (reading R.banged (R.telling r.now) self.old tables.old) self.old self.new tables.old tables.new }
-        ensures pieces { PiecesFed (reading R.banged (R.telling r.now) self.old tables.old) self.old self.new tables.old tables.new }
         ensures lenders { SameLenders tables.old tables.new }
     {
         let found = self.look(r, tables)?;

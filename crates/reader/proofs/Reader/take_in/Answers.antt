@@ -1,5 +1,8 @@
-use Rattle.std.proofs.Common.{◌≡◌, ap, ◌∙◌, subst, rules}
+use Rattle.std.proofs.Common.{◌≡◌, Result, ap, ◌∙◌, subst, rules}
+use Rattle.kinds.specs.Equality.{equal_value}
+use Rattle.kinds.specs.declared.kind.Kind.TheVariants.{Eof}
 use Rattle.table.specs.declared.Appended.{Appended}
+use Rattle.table.specs.declared.Full.{Full}
 use Rattle.table.specs.declared.Table.{Table}
 use Rattle.table.specs.Order.{rows_with, count_with}
 use Rattle.table.specs.View.{rows_of, count_of}
@@ -14,8 +17,8 @@ returns-clause-taken c =
     let Rows : Table TokenRow → TokenRow → Type 0 = λ t row. (rows_of new ≡ rows_with (token_outcome t row) (rows_of t) (count_of t) row) × (count_of new ≡ count_with (token_outcome t row) (count_of t)) in
     let Of : TokenRow → Type 0 = Rows c.args.tables.now.tokens in
     let appended : Rows c.feed_gap.new.tables.tokens c.new.result = (
-      c.append.ensures.rows ∙ ap (λ (a : Appended). rows_with a (rows_of c.feed_gap.new.tables.tokens) (count_of c.feed_gap.new.tables.tokens) c.new.result) c.append.ensures.answer,
-      c.append.ensures.count ∙ ap (λ (a : Appended). count_with a (count_of c.feed_gap.new.tables.tokens)) c.append.ensures.answer,
+      c.append.ensures.rows ∙ ap (λ (a : Result Appended Full). rows_with a (rows_of c.feed_gap.new.tables.tokens) (count_of c.feed_gap.new.tables.tokens) c.new.result) c.append.ensures.answer,
+      c.append.ensures.count ∙ ap (λ (a : Result Appended Full). count_with a (count_of c.feed_gap.new.tables.tokens)) c.append.ensures.answer,
     ) in
     let On : Table TokenRow → Type 0 = λ t. Rows t c.new.result in
     let rows : Rows c.args.tables.now.tokens (row_of c.args.found c.handle_token.new.self) = subst Of c.new.ensures (subst On c.feed_gap.ensures.tokens appended) in
@@ -23,7 +26,7 @@ returns-clause-taken c =
       opening = search rules;
       text = search rules;
       place = search rules;
-      ended = search rules;
+      ended = c.eq-self.ensures ∙ equal_value c.args.found.token.kind Eof;
       fed = (fed_state c.feed_gap.new.builder c.feed_gap.new.tables, search rules, search rules);
       rows = rows.0;
       count = rows.1;
