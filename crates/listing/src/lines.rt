@@ -15,9 +15,11 @@ use table::Table;
 fn comment_bytes(comments: &Table<'_, Comment>) -> u64
     ensures { result ≡ comment_bytes (kept_of comments.now) }
 {
-    comments.kept().iter().fold(0, |bytes: u64, c| {
-        bytes.saturating_add(u64::from(c.end.saturating_sub(c.start)))
-    })
+    let mut bytes = 0u64;
+    for c in comments.kept() {
+        bytes = bytes.saturating_add(u64::from(c.end.saturating_sub(c.start)));
+    }
+    bytes
 }
 
 // The thousandths of the text that are comment, cut off.

@@ -5,6 +5,6 @@ use Rattle.listing.proofs.list.list_refusal.Goals as goal
 
 pub returns : goal.returns
 returns c =
-    let line = writes_is (ap (λ n. line_of 82 (n ∷ [])) c.number.ensures) c.put_line.ensures in
+    let line = writes_is (ap (λ n. line_of 82 (n ∷ [])) (c.from-2.ensures ∙ c.from.ensures)) c.put_line.ensures in
     let w = line.wrote _ [] c.new-out.ensures.wrote in
     record { answer = c.len.ensures ∙ w.long; bytes = ◌∙◌ {b = c.put_line.new.self.bytes.now} (search rules) w.bytes }
