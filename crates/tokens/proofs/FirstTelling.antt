@@ -7,7 +7,6 @@ use Rattle.std.specs.Option.{option_map, option_or}
 use Rattle.std.proofs.lemmas.Bool.{cases_lt}
 use Rattle.tokens.specs.Layout.{record_of, record_bytes}
 use Rattle.tokens.specs.Recorded.{RecordTells, FirstTold, told_by, first_of, recorded_telling}
-use Rattle.tokens.specs.declared.layout.Record.{Record}
 use Rattle.tokens.specs.declared.token_reader.Told.{Told}
 use Rattle.tokens.proofs.Records.{tells_sound, tells_complete, tells_whole}
 

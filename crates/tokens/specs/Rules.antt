@@ -1,5 +1,7 @@
 -- The bytes of a text, and the rules that a grammar over bytes is made of.
 use Rattle.std.specs.Prelude.{◌≡◌, ℕ, ◌≤◌, Bool, true, ◌⊎◌, List, [], ◌∷◌, ◌++◌, length, slice_index, slice_range}
+use Rattle.std.specs.Borrow.{Bor}
+use Rattle.std.specs.Fn.{Shared, FnReturnsAt}
 
 -- the byte at a place, or 0 past the end
 abbrev pub byte_at : List ℕ → ℕ → ℕ
@@ -8,6 +10,10 @@ byte_at text place = slice_index text place
 -- the bytes from one place to another
 abbrev pub between : List ℕ → ℕ → ℕ → List ℕ
 between text from end = slice_range text from end
+
+-- each call of a closure answers whether the byte is of a class
+abbrev pub Tests : {F : Type 0} → Shared F (Bor ℕ × Unit {0}) Bool → F → (ℕ → Bool) → Type 0
+Tests g passes class = (b : ℕ) (answer : Bool) → FnReturnsAt g passes b answer → answer ≡ class b
 
 -- a rule is the lists of bytes that it holds of
 abbrev pub Rule : Type 1

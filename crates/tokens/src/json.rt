@@ -1,8 +1,7 @@
 // The tokens of JSON (RFC 8259): structural characters, literal names, strings and numbers.
 ghost use Rattle.std.specs.Prelude.{◌≡◌, ◌<◌, ℕ, Bool, false, length, drop, OnSome};
-ghost use Rattle.std.specs.Fn.{FnReturnsAt};
 ghost use Rattle.tokens.specs.Json.{run_end, structural, structural_at, int_start, int_end, frac_end, after_sign, exp_at, told_number, number_at, literal, literal_at, string_from, string_at, json_telling};
-ghost use Rattle.tokens.specs.Rules.{byte_at};
+ghost use Rattle.tokens.specs.Rules.{byte_at, Tests};
 ghost use Rattle.tokens.specs.Grammar.{Numbers, Tells};
 ghost use Rattle.tokens.specs.Fairness.{fair_json};
 
@@ -27,7 +26,7 @@ fn rest(bytes: &[u8], from: usize) -> &[u8]
 // Where a run of bytes ends that pass a test and go on from the place.
 fn end_of_run<F: Fn(&u8) -> bool>(bytes: &[u8], from: usize, passes: F) -> usize
     requires { (test : F) (byte : _) → F.pre test byte }
-    ensures { (class : ℕ → Bool) → ((b : ℕ) (answer : Bool) → FnReturnsAt F.Fn passes b answer → answer ≡ class b) → result ≡ run_end class bytes.now from }
+    ensures { (class : ℕ → Bool) → Tests F.Fn passes class → result ≡ run_end class bytes.now from }
 {
     let run = rest(bytes, from).iter().copied().take_while(passes);
     from + run.count()

@@ -6,12 +6,13 @@ ghost use Rattle.tokens.specs.FairRecords.{fair_recorded};
 
 use crate::layout::{RECORD_LEN, Record};
 use crate::token_reader::{TokenReader, Told};
+use kinds::kind::Kind;
 
-// Whether the record keeps the laws of a token reader over the text.
+// Whether the record keeps the laws of a token reader over the text. The kinds of tokens begin with Ident.
 fn counts(text: &str, recorded: Record) -> bool
     ensures { result ≡ counts_for text.now recorded }
 {
-    u8::from(recorded.kind) >= 4
+    u8::from(recorded.kind) >= u8::from(Kind::Ident)
         && recorded.start < recorded.end
         && text.is_char_boundary(recorded.start as usize)
         && text.is_char_boundary(recorded.end as usize)

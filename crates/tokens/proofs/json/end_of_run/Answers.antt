@@ -1,4 +1,4 @@
-use Rattle.std.proofs.Common.{◌+◌, ap, ◌∙◌, drop, rules}
+use Rattle.std.proofs.Common.{◌+◌, ap, ◌∙◌, drop}
 use Rattle.std.proofs.lemmas.Iterator.{YieldsList-from_slice}
 use Rattle.std.proofs.lemmas.Iterator.Consumers.{count_from_yields_List, YieldsList-from_copied}
 use Rattle.std.proofs.lemmas.Iterator.Search.{YieldsList-from_take_while}

@@ -1,4 +1,4 @@
-use Rattle.std.proofs.Common.{◌≡◌, ◌<◌, List, ap, ◌∙◌, subst, arith, rules}
+use Rattle.std.proofs.Common.{◌≡◌, ap, ◌∙◌, subst, arith, rules}
 use Rattle.std.specs.Iterator.Runs.{IsChunksExactRun}
 use Rattle.std.specs.Slice.Iter.{chunks_exact_rest, chunks_exact_size}
 use Rattle.tokens.proofs.FirstTelling.{first_given}
