@@ -38,7 +38,7 @@ impl fmt::Display for Full {
 impl Error for Full {}
 
 // The first `count` rows are on record; the others are the caller's.
-// A count stands beside the rows since they are the caller's; any count may, so that who makes a table by hand is asked for nothing.
+// The count stands beside the rows, since they are the caller's, and any count may: who makes a table by hand is asked for nothing.
 #[derive(Drop)]
 pub struct Table<'a, T> {
     pub rows: &'a mut [T],
