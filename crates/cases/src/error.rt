@@ -6,8 +6,8 @@ use std::alloc::{AllocError, AllocFailed};
 use std::error::Error;
 use std::fmt;
 
-// What is printed for a case that has a malformed field.
-pub const MALFORMED: &str = "! a field that is missing, not hexadecimal, or repeated too often";
+// What the programs print for a case that has a malformed field.
+const MALFORMED: &str = "! a field that is missing, not hexadecimal, or repeated too often";
 
 #[derive(Clone, Copy, Debug, PartialEq, Eq)]
 pub enum CaseError {

@@ -1,7 +1,9 @@
 // The questions that a line may ask, each of a case.
 use crate::answers::{print_hashbang, print_json, print_kinds, print_pieces, print_recorded};
-use cases::line::{MALFORMED, field_of, is_skipped, split_word, text_of};
-use std::alloc::{AllocError, Global};
+use cases::error::CaseError;
+use cases::line::{field_of, is_skipped, split_word, text_of};
+use std::alloc::Global;
+use std::str::FromStr;
 
 #[derive(Clone, Copy)]
 enum Question {
@@ -11,20 +13,28 @@ enum Question {
     Recorded,
 }
 
-fn question_of(word: &str) -> Option<Question> {
-    match word {
-        "pieces" => Some(Question::Pieces),
-        "hashbang" => Some(Question::Hashbang),
-        "json" => Some(Question::Json),
-        "recorded" => Some(Question::Recorded),
-        _ => None,
+// A word that names no question.
+#[derive(Clone, Copy)]
+struct NoQuestion;
+
+impl FromStr for Question {
+    type Err = NoQuestion;
+
+    fn from_str(word: &str) -> Result<Question, NoQuestion> {
+        match word {
+            "pieces" => Ok(Question::Pieces),
+            "hashbang" => Ok(Question::Hashbang),
+            "json" => Ok(Question::Json),
+            "recorded" => Ok(Question::Recorded),
+            _ => Err(NoQuestion),
+        }
     }
 }
 
-// The bytes of one field, where `-` stands for none; none where it is malformed.
-fn bytes_of(heap: Global, field: &str) -> Result<Option<Vec<u8>>, AllocError> {
+// The bytes of one field, where `-` stands for none.
+fn bytes_of(heap: Global, field: &str) -> Result<Vec<u8>, CaseError> {
     if field == "-" {
-        return Ok(Some(Vec::new(heap)));
+        return Ok(Vec::new(heap));
     }
     field_of(heap, field)
 }
@@ -34,26 +44,26 @@ fn text_and_list(
     heap: Global,
     question: Question,
     fields: &str,
-) -> Result<Option<(Vec<u8>, Vec<u8>)>, AllocError> {
-    let (text, list) = match question {
+) -> Result<(Vec<u8>, Vec<u8>), CaseError> {
+    match question {
         Question::Pieces | Question::Hashbang | Question::Json => {
-            (text_of(heap, fields)?, Some(Vec::new(heap)))
+            Ok((text_of(heap, fields)?, Vec::new(heap)))
         }
         Question::Recorded => {
             let (first, second) = split_word(fields);
-            (bytes_of(heap, first)?, bytes_of(heap, second)?)
+            Ok((bytes_of(heap, first)?, bytes_of(heap, second)?))
         }
-    };
-    match (text, list) {
-        (Some(text), Some(list)) => Ok(Some((text, list))),
-        _ => Ok(None),
     }
 }
 
 fn answer(rt: &HostRuntime, question: Question, fields: &str) -> anyhow::Result<()> {
-    let Some((bytes, list)) = text_and_list(rt.alloc(), question, fields)? else {
-        println!(rt; "{MALFORMED}")?;
-        return Ok(());
+    let (bytes, list) = match text_and_list(rt.alloc(), question, fields) {
+        Ok(both) => both,
+        Err(CaseError::Alloc(e)) => return Err(e.into()),
+        Err(malformed) => {
+            println!(rt; "{malformed}")?;
+            return Ok(());
+        }
     };
     let Ok(text) = std::str::from_utf8(bytes.as_slice()) else {
         println!(rt; "! not UTF-8")?;
@@ -79,8 +89,8 @@ pub fn ask(rt: &HostRuntime, number: u64, line: &str) -> anyhow::Result<()> {
     }
     let (word, case) = split_word(line);
     let (name, fields) = split_word(case);
-    match question_of(word) {
-        Some(question) if !name.is_empty() => {
+    match word.parse::<Question>() {
+        Ok(question) if !name.is_empty() => {
             println!(rt; "= {name}")?;
             answer(rt, question, fields)
         }
