@@ -1,9 +1,8 @@
 -- The fields of a case line, as docs/FORMATS.md has them.
-use Rattle.std.specs.Prelude.{◌≡◌, ℕ, ◌+◌, ◌-◌, ◌*◌, Bool, false, cond, ◌&&◌, ◌||◌, List, [], ◌∷◌, ◌++◌, length, Some, None, Option, Result, IfOk, IsErrOf, vec_items, ◌==◌, nat_le, nat_lt, slice_index}
-use Rattle.std.specs.List.{repeat, slice_split}
+use Rattle.std.specs.Prelude.{◌≡◌, ℕ, ◌+◌, ◌-◌, ◌*◌, Bool, cond, ◌&&◌, ◌||◌, List, [], ◌∷◌, ◌++◌, length, Some, None, Option, Result, IfOk, IsErrOf, Vec, vec_items, ◌==◌, nat_le, nat_lt, slice_index}
+use Rattle.std.specs.List.{after_first, before_first, list_any, repeat, slice_split}
 use Rattle.std.specs.Str.{all_ascii_digits}
 use Rattle.std.specs.Str.Parse.{without_leading_plus}
-use Rattle.std.proofs.Common.{Vec}
 use Rattle.cases.specs.declared.error.CaseError.{CaseError}
 use Rattle.cases.specs.declared.error.CaseError.TheVariants.{Malformed}
 use Rattle.cases.specs.Hex.{some_bytes}
@@ -14,18 +13,15 @@ skipped line = length line == 0 || slice_index line 0 == 35
 
 -- what stands before the first byte c
 abbrev pub word_of : ℕ → List ℕ → List ℕ
-word_of c [] = []
-word_of c (b ∷ bs) = cond (b == c) [] (b ∷ word_of c bs)
+word_of c line = before_first (λ b. b == c) line
 
 -- what stands after it
 abbrev pub rest_of : ℕ → List ℕ → List ℕ
-rest_of c [] = []
-rest_of c (b ∷ bs) = cond (b == c) bs (rest_of c bs)
+rest_of c line = after_first (λ b. b == c) line
 
 -- the byte c stands somewhere
 abbrev pub has : ℕ → List ℕ → Bool
-has c [] = false
-has c (b ∷ bs) = b == c || has c bs
+has c line = list_any (λ b. b == c) line
 
 -- the number that decimal digits write after those of n
 abbrev pub decimal_from : ℕ → List ℕ → ℕ
@@ -36,7 +32,7 @@ decimal_from n (d ∷ ds) = decimal_from (10 * n + (d - 48)) ds
 abbrev pub times : List ℕ → Option ℕ
 times ds = cond (nat_lt 48 (slice_index ds 0) && (all_ascii_digits ds && nat_le (decimal_from 0 ds) 40000)) (Some (decimal_from 0 ds)) None
 
--- the same, loosely: zeros may stand before it, and before them a plus sign
+-- how often, loosely: a decimal number up to 40000, before which zeros may stand, and before them a plus sign
 abbrev pub loose_times : List ℕ → Option ℕ
 loose_times count =
     let ds = without_leading_plus count in

@@ -17,7 +17,7 @@ returns-in_ok-count_of-in-Some g c =
     let p : Parted 42 c.args.field.now c.in-Some.digits.now c.in-Some.count.now =
     cut 42 c.args.field.now (Some (c.in-Some.digits, c.in-Some.count)) c.in-Some.ensures.cases (omega arith) in
     let once = ap (λ b. cond b (t (rest_of 42 c.args.field.now)) (Some 1)) p.found in
-    (sym p.word, once ∙ ap t p.rest ∙ sym (h c.in-Some.count.now (Some c.in_ok-count_of-in-Some.field-0) (gave_at g.F.FnOnce c.in_ok-count_of-in-Some.ensures refl)))
+    (sym p.word, once ∙ ap t p.rest ∙ sym (h c.in-Some.count.now (Some c.in_ok-count_of-in-Some.field-0) (gave_at g.F.FnOnce c.in_ok-count_of-in-Some.ensures (refl {a = Some c.in_ok-count_of-in-Some.field-0}))))
 
 pub returns-in_err-count_of-in-Some : goal.returns-in_err-count_of-in-Some
 returns-in_err-count_of-in-Some g c =
@@ -25,4 +25,4 @@ returns-in_err-count_of-in-Some g c =
     let p : Parted 42 c.args.field.now c.in-Some.digits.now c.in-Some.count.now =
     cut 42 c.args.field.now (Some (c.in-Some.digits, c.in-Some.count)) c.in-Some.ensures.cases (omega arith) in
     let once = ap (λ b. cond b (t (rest_of 42 c.args.field.now)) (Some 1)) p.found in
-    rw c.from_residual.ensures (once ∙ ap t p.rest ∙ sym (h c.in-Some.count.now None (gave_at g.F.FnOnce c.in_err-count_of-in-Some.ensures refl)))
+    rw c.from_residual.ensures (once ∙ ap t p.rest ∙ sym (h c.in-Some.count.now None (gave_at g.F.FnOnce c.in_err-count_of-in-Some.ensures (refl {a = None}))))
