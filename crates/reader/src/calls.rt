@@ -90,7 +90,8 @@ impl<'t> Reader<'t> {
         self.builder.clear_no_side_effects_comments();
         feed_gap(&mut self.builder, tables, &self.source);
         self.builder.handle_token(&mut tables.comments, found.token);
-        let _ = tables.tokens.append(TokenRow::new(found, &self.builder));
+        let row = TokenRow::new(found, &self.builder);
+        let _ = tables.tokens.append(row);
         self.source.set_position(found.token.end as usize);
         self.ended = found.token.kind == Kind::Eof;
     }

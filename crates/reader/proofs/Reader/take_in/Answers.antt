@@ -16,12 +16,12 @@ returns-clause-taken c =
     let new : Table TokenRow = c.append.new.self in
     let Rows : Table TokenRow → TokenRow → Type 0 = λ t row. (rows_of new ≡ rows_with (token_outcome t row) (rows_of t) (count_of t) row) × (count_of new ≡ count_with (token_outcome t row) (count_of t)) in
     let Of : TokenRow → Type 0 = Rows c.args.tables.now.tokens in
-    let appended : Rows c.feed_gap.new.tables.tokens c.new.result = (
-      c.append.ensures.rows ∙ ap (λ (a : Result Appended Full). rows_with a (rows_of c.feed_gap.new.tables.tokens) (count_of c.feed_gap.new.tables.tokens) c.new.result) c.append.ensures.answer,
+    let appended : Rows c.feed_gap.new.tables.tokens c.new-row.result = (
+      c.append.ensures.rows ∙ ap (λ (a : Result Appended Full). rows_with a (rows_of c.feed_gap.new.tables.tokens) (count_of c.feed_gap.new.tables.tokens) c.new-row.result) c.append.ensures.answer,
       c.append.ensures.count ∙ ap (λ (a : Result Appended Full). count_with a (count_of c.feed_gap.new.tables.tokens)) c.append.ensures.answer,
     ) in
-    let On : Table TokenRow → Type 0 = λ t. Rows t c.new.result in
-    let rows : Rows c.args.tables.now.tokens (row_of c.args.found c.handle_token.new.self) = subst Of c.new.ensures (subst On c.feed_gap.ensures.tokens appended) in
+    let On : Table TokenRow → Type 0 = λ t. Rows t c.new-row.result in
+    let rows : Rows c.args.tables.now.tokens (row_of c.args.found c.handle_token.new.self) = subst Of c.new-row.ensures (subst On c.feed_gap.ensures.tokens appended) in
     record {
       opening = search rules;
       text = search rules;
