@@ -401,6 +401,7 @@ const KEEPS_LINE_COMMENT_LEADING: [bool; 169] = [
     false, false, false, false, false, false, false, false, false, false, false, false,
 ];
 
+// Each question indexes its own table: a helper that takes the table would be no plainer.
 impl Kind {
     // Whether a token of this kind can be the completed left-hand side of an infix or suffix boundary.
     pub fn can_end_expression(self) -> bool

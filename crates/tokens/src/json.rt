@@ -153,9 +153,8 @@ fn string_end(bytes: &[u8], from: usize) -> Option<usize>
         match *b {
             _ if escaped => escaped = false,
             b'"' => return Some(from + i + 1),
-            b'\\' => escaped = true,
             0..=31 => return None,
-            _ => {}
+            b => escaped = b == b'\\',
         }
     }
     None
