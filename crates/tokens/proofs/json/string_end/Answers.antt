@@ -1,11 +1,16 @@
-use Rattle.std.proofs.Common.{◌+◌, arith}
+use Rattle.std.proofs.Common.{sym, ◌∙◌, arith}
 use Rattle.std.proofs.lemmas.Bool.Decides.{nat_tests}
+use Rattle.std.proofs.lemmas.List.{at_drop_all}
+use Rattle.tokens.specs.Json.{string_from}
 use Rattle.tokens.specs.Strings.{string_more}
 use Rattle.tokens.proofs.json.string_end.Goals as goal
 use Rattle.tokens.proofs.json.string_end.Goals.{then-escaped, else-escaped+in_default-2}
 
-pub loop-i-preserved : goal.loop-i-preserved
-loop-i-preserved c =
-    let e = string_more c.loop-i.escaped (c.args.from + c.loop-i.i) c.rest-b-items.result.now c.loop-i.i c.loop-i-test.true in
-    let i = c.loop-i.invariant in
+pub loop-place-preserved : goal.loop-place-preserved
+loop-place-preserved c =
+    let e = string_more c.loop-place.escaped c.loop-place.place c.args.bytes.now c.loop-place.place (omega arith) in
+    let i = c.loop-place.invariant in
     elim c.if-escaped.branch [ then-escaped w ↦ grind (arith, nat_tests) | else-escaped+in_default-2 w ↦ grind (arith, nat_tests) ]
+
+pub returns : goal.returns
+returns c = sym (at_drop_all (string_from c.loop-place.escaped c.loop-place.place) c.args.bytes.now c.loop-place.place (omega arith)) ∙ c.loop-place.invariant
