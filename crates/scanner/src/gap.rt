@@ -31,7 +31,7 @@ fn is_after(last: Option<usize>, start: usize) -> bool
 }
 
 impl GapMeasure {
-    // The gap with one piece more.
+    // The gap with one piece more. The two last starts stay apart: callers hold them in two tables, and only this asks for both.
     fn with_piece(
         self,
         piece: &Piece<'_>,
