@@ -37,7 +37,7 @@ impl fmt::Display for CaseError {
     fn fmt<W: fmt::Write>(&self, f: &mut fmt::Formatter<W>) -> fmt::Result {
         match self {
             CaseError::Malformed => f.write_str(MALFORMED),
-            CaseError::Alloc(e) => write!(f, "{e}"),
+            CaseError::Alloc(cause) => write!(f, "{cause}"),
         }
     }
 }
