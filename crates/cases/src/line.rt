@@ -1,7 +1,7 @@
 // The lines of a case file.
 ghost use Rattle.std.specs.Prelude.{◌≡◌, ℕ, List, IfOk, IsErrOf, Some, None, Option, MatchOption, nat_lt, slice_index};
 ghost use Rattle.std.specs.Fn.{FnReturnsAt, FnOnceReturnsAt};
-ghost use Rattle.cases.specs.Fields.{skipped, word_of, rest_of, times, loose_times, counted, times_of, Gives, field_bytes, Spells, fields_of, gathered, text_of};
+ghost use Rattle.cases.specs.Fields.{skipped, word_of, rest_of, times, loose_times, counted, Gives, field_bytes, Spells, fields_of, gathered, text_of};
 
 use crate::error::CaseError;
 use crate::hex::push_hex;
