@@ -1,6 +1,7 @@
 // Why a case gives no text.
 ghost use Rattle.std.specs.Prelude.{◌≡◌, alloc_error};
 ghost use Rattle.cases.specs.declared.error.CaseError.TheVariants.{Alloc};
+ghost use Rattle.cases.specs.Words.{words_of};
 
 use std::alloc::{AllocError, AllocFailed};
 use std::error::Error;
@@ -34,6 +35,8 @@ impl<T: Drop> From<AllocFailed<T>> for CaseError {
 }
 
 impl fmt::Display for CaseError {
+    ghost output = { words_of };
+
     fn fmt<W: fmt::Write>(&self, f: &mut fmt::Formatter<W>) -> fmt::Result {
         match self {
             CaseError::Malformed => f.write_str(MALFORMED),

@@ -1,5 +1,5 @@
 // The kinds of tokens, numbered in the order in which they stand here, and what the builder asks of a kind.
-ghost use Rattle.std.specs.Prelude.{◌≡◌};
+ghost use Rattle.std.specs.Prelude.{◌≡◌, ◌++◌, Some, codes, decimal};
 ghost use Rattle.kinds.specs.Kinds.{can_end_expression, continues_previous_expression, keeps_line_comment_leading};
 ghost use Rattle.kinds.specs.Conversions.{GivesNumber, GivesKind};
 
@@ -453,6 +453,8 @@ impl TryFrom<u8> for Kind {
 }
 
 impl fmt::Display for UnknownKind {
+    ghost output = { λ unknown. Some (codes "no kind has number " ++ decimal unknown.0) };
+
     fn fmt<W: fmt::Write>(&self, f: &mut fmt::Formatter<W>) -> fmt::Result {
         write!(f, "no kind has number {}", self.0)
     }

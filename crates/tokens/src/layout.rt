@@ -1,5 +1,5 @@
 // The layout of a recorded token in eleven bytes: the mark, the kind's number, the start and the end.
-ghost use Rattle.std.specs.Prelude.{◌≡◌};
+ghost use Rattle.std.specs.Prelude.{◌≡◌, Some, codes};
 ghost use Rattle.tokens.specs.Layout.{GivesRecord};
 ghost use Rattle.tokens.specs.declared.layout.NotARecord.{NotARecord};
 
@@ -49,6 +49,8 @@ impl From<UnknownKind> for NotARecord {
 }
 
 impl fmt::Display for NotARecord {
+    ghost output = { λ _. Some (codes "the bytes spell no record") };
+
     fn fmt<W: fmt::Write>(&self, f: &mut fmt::Formatter<W>) -> fmt::Result {
         f.write_str("the bytes spell no record")
     }
