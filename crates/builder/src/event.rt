@@ -24,7 +24,7 @@ impl From<CommentKind> for Event {
     }
 }
 
-// What becomes of the rows that are not attached yet.
+// What becomes of the rows that are not attached yet: a value and no closure, since the promises tell its cases apart.
 #[derive(Clone, Copy, Debug, PartialEq, Eq)]
 pub enum Attach {
     // They wait on.
@@ -57,6 +57,7 @@ impl Effect {
     }
 }
 
+// The flags, whether rows wait and the event are four values in one match, as the rules have them in one table.
 pub fn match_event(
     saw_newline: bool,
     saw_newline_for_comment: bool,

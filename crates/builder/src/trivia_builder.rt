@@ -193,6 +193,7 @@ impl TriviaBuilder {
         }
     }
 
+    // Each of the two ranges has its own calls, with the names that they have in oxc.
     pub fn previous_token_pure_comments(&self) -> Option<(usize, usize)>
         ensures { result ≡ self.now.pure_comments }
     {

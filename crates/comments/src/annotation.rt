@@ -34,7 +34,7 @@ fn may_be_property_key(rest: &[u8]) -> bool
     is_marked(rest, b"__KEY__") || rest.first().is_some_and(|b| !b.is_ascii())
 }
 
-// The text without the white space at both ends.
+// The text without the white space at both ends. A name for the library's method, whose promise is by the property's code points.
 fn trim(text: &str) -> &str
     ensures { result.now ≡ trimmed text.now }
 {

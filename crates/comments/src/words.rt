@@ -18,6 +18,7 @@ pub(crate) fn has_capital_after(bytes: &[u8], word: &[u8]) -> bool
 }
 
 // Whether the bytes begin with the directive and then a blank, or end there.
+// Beside the one above, since a function for both would ask for a closure about an optional byte and be no shorter.
 pub(crate) fn starts_with_directive(bytes: &[u8], word: &[u8]) -> bool
     ensures { result ≡ directive word.now bytes.now }
 {

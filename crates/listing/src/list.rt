@@ -11,22 +11,14 @@ use reader::Reader;
 use reader::tables::Tables;
 use refusals::Refusal;
 
-// How many bytes the listing has: it is written into no room at all, and counted.
-fn measure(tables: &Tables<'_>, text_len: u64) -> usize
-    ensures { result ≡ min (length (listing_of tables.now text_len)) most }
-{
-    let mut none: [u8; 0] = [];
-    let mut out = Out::new(&mut none);
-    put_all(&mut out, tables, text_len);
-    out.len()
-}
-
-// Writes the listing, which has room.
-fn write_out(buffer: &mut [u8], tables: &Tables<'_>, text_len: u64)
-    ensures { buffer.new ≡ laid buffer.old 0 (listing_of tables.now text_len) }
+// Lays the listing into a buffer, as far as that goes; the answer is how many bytes the listing has.
+fn lay_out(buffer: &mut [u8], tables: &Tables<'_>, text_len: u64) -> usize
+    ensures answer { result ≡ min (length (listing_of tables.now text_len)) most }
+    ensures bytes { buffer.new ≡ laid buffer.old 0 (listing_of tables.now text_len) }
 {
     let mut out = Out::new(buffer);
     put_all(&mut out, tables, text_len);
+    out.len()
 }
 
 // Lists what the tables have on record. The answer is how many bytes the listing has; the others of the buffer are left alone.
@@ -38,12 +30,12 @@ pub fn list(reader: &Reader<'_>, tables: &Tables<'_>, buffer: &mut [u8]) -> Resu
         return Err(refusal);
     }
     let text_len = reader.text_len() as u64;
-    let len = measure(tables, text_len);
+    // First into no room at all, to count its bytes.
+    let len = lay_out(&mut [], tables, text_len);
     if len > buffer.len() {
         return Err(Refusal::ListingTooLong);
     }
-    write_out(buffer, tables, text_len);
-    Ok(len)
+    Ok(lay_out(buffer, tables, text_len))
 }
 
 // Writes the one line of a refusal; the answer is how many bytes it has.

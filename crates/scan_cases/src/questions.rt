@@ -69,6 +69,7 @@ fn answer(rt: &HostRuntime, question: Question, fields: &str) -> anyhow::Result<
         println!(rt; "! not UTF-8")?;
         return Ok(());
     };
+    // One arm for each question: a closure for each would say the same at more length.
     match question {
         Question::Pieces => print_pieces(rt, text)?,
         Question::Hashbang => print_hashbang(rt, text)?,

@@ -39,6 +39,7 @@ impl Error for Full {}
 
 // The first `count` rows are on record; the others are the caller's.
 // The count stands beside the rows, since they are the caller's, and any count may: who makes a table by hand is asked for nothing.
+// Clauses named `lender` say that the rows are lent by whom they were; no invariant can, as that is about two moments.
 #[derive(Drop)]
 pub struct Table<'a, T> {
     pub rows: &'a mut [T],
