@@ -64,6 +64,7 @@ fn feed_piece(builder: &mut TriviaBuilder, tables: &mut Tables<'_>, text: &str, 
             let end = comment_end(piece.start, comment);
             let _ = builder.add_line_comment(&mut tables.comments, text, start, end);
         }
+        // Two arms, since in one the proof does not tell the two kinds of block apart.
         Trivia::SingleLineBlock(comment) => {
             feed_block(builder, tables, text, piece.start, comment, false);
         }
