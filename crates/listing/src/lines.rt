@@ -9,34 +9,30 @@ use crate::rows::put_rows;
 use comments::comment::Comment;
 use reader::tables::Tables;
 use reader::token_row::TokenRow;
-use table::Table;
 
 // How many bytes of the text are of comments.
-fn comment_bytes(comments: &Table<'_, Comment>) -> u64
-    ensures { result ≡ comment_bytes (kept_of comments.now) }
+fn comment_bytes(comments: &[Comment]) -> u64
+    ensures { result ≡ comment_bytes comments.now }
 {
-    let mut bytes = 0u64;
-    for c in comments.kept() {
-        bytes = bytes.saturating_add(u64::from(c.end.saturating_sub(c.start)));
-    }
-    bytes
+    comments.iter().fold(0, |bytes: u64, comment| {
+        bytes.saturating_add(u64::from(comment.end.saturating_sub(comment.start)))
+    })
 }
 
 // The thousandths of the text that are comment, cut off.
 fn share_of(bytes: u64, text_len: u64) -> u64
     ensures { result ≡ share bytes text_len }
 {
-    if text_len == 0 {
-        0
-    } else {
-        bytes.saturating_mul(1000) / text_len
-    }
+    bytes
+        .saturating_mul(1000)
+        .checked_div(text_len)
+        .unwrap_or(0)
 }
 
 fn end_fields(tables: &Tables<'_>, text_len: u64) -> [u64; 4]
     ensures { result ≡ end_fields (kept_of tables.now.comments) (kept_of tables.now.spaces) text_len }
 {
-    let bytes = comment_bytes(&tables.comments);
+    let bytes = comment_bytes(tables.comments.kept());
     [
         tables.comments.len() as u64,
         tables.spaces.len() as u64,
@@ -45,14 +41,16 @@ fn end_fields(tables: &Tables<'_>, text_len: u64) -> [u64; 4]
     ]
 }
 
-// The line of an unterminated end.
-fn put_unterminated(out: &mut Out<'_>, tokens: &Table<'_, TokenRow>)
-    ensures { Writes (unterminated_line (last_row (kept_of tokens.now))) out.old out.new }
+// The line of an unterminated end, if the last token is one.
+fn put_unterminated(out: &mut Out<'_>, tokens: &[TokenRow])
+    ensures { Writes (unterminated_line (last_row tokens.now)) out.old out.new }
 {
-    if let Some(row) = tokens.kept().last() {
-        if row.unterminated {
-            out.put_line(b'U', &[row.token.start as u64, row.token.end as u64]);
-        }
+    let row = tokens.last().copied().unwrap_or_default();
+    if row.unterminated {
+        out.put_line(
+            b'U',
+            &[u64::from(row.token.start), u64::from(row.token.end)],
+        );
     }
 }
 
@@ -60,8 +58,8 @@ fn put_unterminated(out: &mut Out<'_>, tokens: &Table<'_, TokenRow>)
 pub(crate) fn put_all(out: &mut Out<'_>, tables: &Tables<'_>, text_len: u64)
     ensures { Writes (listing_of tables.now text_len) out.old out.new }
 {
-    put_rows(out, &tables.comments);
-    put_rows(out, &tables.spaces);
-    put_unterminated(out, &tables.tokens);
+    put_rows(out, tables.comments.kept());
+    put_rows(out, tables.spaces.kept());
+    put_unterminated(out, tables.tokens.kept());
     out.put_line(b'E', &end_fields(tables, text_len));
 }

@@ -1,11 +1,14 @@
 #![tactic(auto)]
 // Reads a text token by token into the tables of a caller.
-ghost use Rattle.std.specs.Prelude.{◌≡◌};
+ghost use Rattle.std.specs.Prelude.{◌≡◌, Some};
+ghost use Rattle.refusals.specs.Words.{words_of};
 ghost use Rattle.reader.specs.Reading.{refusal_of};
 
 use builder::state::TriviaBuilder;
 use refusals::Refusal;
 use source::source::Source;
+use std::error::Error;
+use std::fmt;
 
 pub mod calls;
 pub mod examples;
@@ -32,6 +35,16 @@ impl From<OpenError> for Refusal {
         }
     }
 }
+
+impl fmt::Display for OpenError {
+    ghost output = { λ why. Some (words_of (refusal_of why)) };
+
+    fn fmt<W: fmt::Write>(&self, f: &mut fmt::Formatter<W>) -> fmt::Result {
+        Refusal::from(*self).fmt(f)
+    }
+}
+
+impl Error for OpenError {}
 
 #[derive(Drop)]
 pub struct Reader<'t> {

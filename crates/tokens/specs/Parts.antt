@@ -1,13 +1,21 @@
 -- Bytes and parts of a text, and rules that hold of parts.
 use Rattle.std.specs.Prelude.{◌≡◌, ℕ, ◌+◌, ◌-◌, ◌<◌, ◌≤◌, min, Bool, true, List, [], ◌∷◌, ◌++◌, length, take, drop, slice_index, refl}
 use Rattle.std.proofs.Common.{inl, inr, sym, ap, ◌∙◌, add-zero, arith}
-use Rattle.std.proofs.lemmas.List.{drop_at, drop-drop, drop_more, drop-take, get_or-drop, get_or_past, length-drop, length-take, nil_from_length, take-append-drop, take-take}
+use Rattle.std.proofs.lemmas.List.{drop_at, drop-drop, drop_more, drop-take, get_or-drop, get_or_past, length-drop, length-take, nil_from_length, take_all, take-append-drop, take-take}
 use Rattle.std.proofs.lemmas.Bool.{cases_lt}
 use Rattle.tokens.specs.Rules.{between, byte_at, Rule, one, ◌then◌}
 
 -- a byte that is not 0 stands in the text
 pub byte_inside : (text : List ℕ) (place : ℕ) → 0 < byte_at text place → place < length text
 byte_inside text place h = elim (cases_lt place (length text)) [ inl l ↦ l | inr past ↦ absurd (omega (arith, get_or_past text place 0 past)) ]
+
+pub between_capped : (text : List ℕ) (from end : ℕ) → between text from (min end (length text)) ≡ between text from end
+between_capped text from end =
+    elim (cases_lt (length text) end) [
+      | inl past ↦ take_all (min end (length text) - from) (drop from text) (omega (arith, length-drop from text))
+          ∙ sym (take_all (end - from) (drop from text) (omega (arith, length-drop from text)))
+      | inr fits ↦ let e : min end (length text) ≡ end = omega arith in ap (between text from) e
+    ]
 
 pub between_none : (text : List ℕ) (from end : ℕ) → min end (length text) ≤ from → between text from end ≡ []
 between_none text from end h =

@@ -1,7 +1,7 @@
 -- A string's end, one byte on, and that it closes a string of the grammar.
-use Rattle.std.specs.Prelude.{◌≡◌, ℕ, suc, ◌+◌, ◌<◌, Bool, true, false, cond, List, [], ◌∷◌, ◌++◌, length, take, drop, IfSome, Some, None, Option, ◌==◌, nat_lt, slice_index, refl}
+use Rattle.std.specs.Prelude.{◌≡◌, ℕ, suc, ◌+◌, ◌<◌, ◌≤◌, Bool, true, false, cond, List, [], ◌∷◌, ◌++◌, length, take, drop, IfSome, Some, None, Option, ◌==◌, nat_lt, slice_index, refl}
 use Rattle.std.proofs.Common.{sym, ap, ◌∙◌, add-zero, arith}
-use Rattle.std.proofs.lemmas.List.{at_drop_more}
+use Rattle.std.proofs.lemmas.List.{at_drop_more, at_drop_all}
 use Rattle.std.proofs.lemmas.Bool.{cond_both, eqb-true}
 use Rattle.std.proofs.lemmas.Bool.Decides.{nat_tests}
 use Rattle.tokens.specs.Grammar.{escape, quote, Chars, no_char, unescaped_char, escaped_char}
@@ -12,6 +12,9 @@ pub string_more : (escaped : Bool) (place : ℕ) (bs : List ℕ) (i : ℕ) → i
     ≡ cond escaped (string_from false (place + 1) (drop (i + 1) bs)) (cond (slice_index bs i == 34) (Some (place + 1))
     (cond (nat_lt (slice_index bs i) 32) None (string_from (slice_index bs i == 92) (place + 1) (drop (i + 1) bs))))
 string_more escaped place bs i h = at_drop_more (string_from escaped place) bs i 0 h
+
+pub string_all : (escaped : Bool) (place : ℕ) (bs : List ℕ) (i : ℕ) → length bs ≤ i → string_from escaped place (drop i bs) ≡ None
+string_all escaped place bs i h = at_drop_all (string_from escaped place) bs i h
 
 -- the characters up to the closing quote; the first byte may be escaped
 abbrev Body : Bool → List ℕ → Type 0

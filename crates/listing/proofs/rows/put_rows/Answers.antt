@@ -11,8 +11,8 @@ loop-row-init g c = writes_none _
 pub loop-row-preserved : goal.loop-row-preserved
 loop-row-preserved g c =
     let line = g.T.Listed.line in
-    let items = c.kept-row-items.result.now in
-    writes_is (ap (λ r. lines_of line (take c.loop-row.row-index items) ++ line r) c.row-item.is ∙ lines_more line items c.loop-row.row-index c.row-item.result c.loop-row-test.true) (writes_then c.loop-row.invariant c.put_row.ensures)
+    let rows = c.args.rows.now in
+    writes_is (ap (λ r. lines_of line (take c.loop-row.row-index rows) ++ line r) c.row-item.is ∙ lines_more line rows c.loop-row.row-index c.row-item.result c.loop-row-test.true) (writes_then c.loop-row.invariant c.put_row.ensures)
 
 pub returns : goal.returns
-returns g c = writes_is (ap (lines_of g.T.Listed.line) (take_all c.loop-row.row-index c.kept-row-items.result.now c.loop-row-test.false ∙ c.kept-row-items.ensures)) c.loop-row.invariant
+returns g c = writes_is (ap (lines_of g.T.Listed.line) (take_all c.loop-row.row-index c.args.rows.now c.loop-row-test.false)) c.loop-row.invariant

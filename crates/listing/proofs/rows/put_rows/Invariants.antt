@@ -5,4 +5,4 @@ use Rattle.listing.specs.Listing.{lines_of}
 use Rattle.listing.proofs.rows.put_rows.Given as goal
 
 abbrev pub invariant-loop-row : goal.invariant-loop-row
-invariant-loop-row g l = Writes (lines_of g.T.Listed.line (take l.row-index l.row-items)) l.initial.out l.out
+invariant-loop-row g l = Writes (lines_of g.T.Listed.line (take l.row-index l.rows)) l.initial.out l.out
