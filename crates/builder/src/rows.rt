@@ -6,7 +6,7 @@ ghost use Rattle.builder.specs.Rows.{may_go_back, attached_row, over, last_follo
 use comments::comment::{Comment, CommentPosition};
 use table::Table;
 
-// How waiting rows are attached.
+// How waiting rows are attached: a value and no closure, since the promises say of each case what becomes of a row.
 #[derive(Clone, Copy, Debug, PartialEq, Eq)]
 pub enum Attachment {
     // All to the end of the token before.
