@@ -1,6 +1,6 @@
 // The kinds of tokens, numbered in the order in which they stand here, and what the builder asks of a kind.
-ghost use Rattle.std.specs.Prelude.{◌≡◌, ◌++◌, Some, codes, decimal};
-ghost use Rattle.kinds.specs.Kinds.{can_end_expression, continues_previous_expression, keeps_line_comment_leading};
+ghost use Rattle.std.specs.Prelude.{◌≡◌, ◌==◌, ◌++◌, Some, Decides, codes, decimal};
+ghost use Rattle.kinds.specs.Kinds.{number_of, can_end_expression, continues_previous_expression, keeps_line_comment_leading};
 ghost use Rattle.kinds.specs.Conversions.{GivesNumber, GivesKind};
 
 use std::error::Error;
@@ -403,6 +403,14 @@ const KEEPS_LINE_COMMENT_LEADING: [bool; 169] = [
 
 // Each question indexes its own table: a helper that takes the table would be no plainer.
 impl Kind {
+    // Whether a kind is another. The derived `==` says it; here stands what that promises.
+    pub fn is(self, other: Kind) -> bool
+        ensures value { result ≡ (number_of self == number_of other) }
+        ensures same { Decides result (self ≡ other) }
+    {
+        self == other
+    }
+
     // Whether a token of this kind can be the completed left-hand side of an infix or suffix boundary.
     pub fn can_end_expression(self) -> bool
         ensures { result ≡ can_end_expression self }

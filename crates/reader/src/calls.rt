@@ -32,8 +32,8 @@ fn text_of(bytes: &[u8], limit: usize) -> Result<&str, OpenError>
 impl<'t> Reader<'t> {
     // Opens a text of at most `limit` bytes. One that is too long or not UTF-8 is refused, and each later call then says so.
     pub fn open(bytes: &'t [u8], limit: usize) -> Self
-        ensures opened { Opened bytes.now (min limit MAX_LEN) result }
-        ensures octets { OpenedOctets bytes.now (min limit MAX_LEN) result }
+        ensures opened { Opened bytes.now (min limit 4294967039) result }
+        ensures octets { OpenedOctets bytes.now (min limit 4294967039) result }
     {
         let text = text_of(bytes, limit.min(MAX_LEN));
         Reader {

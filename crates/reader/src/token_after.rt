@@ -9,7 +9,6 @@ use kinds::kind::Kind;
 use kinds::token::Token;
 use scanner::comment::read_hashbang_comment;
 use scanner::gap::GapMeasure;
-use source::source::MAX_LEN;
 use tokens::token_reader::TokenReader;
 
 fn opens_hashbang(text: &[u8]) -> bool
@@ -38,7 +37,7 @@ fn found_after(gap: &GapMeasure, kind: Kind, end: usize, unterminated: bool) -> 
 // The hashbang line at the start of the text.
 fn hashbang_line(text: &str, gap: &GapMeasure) -> Found
     requires cut { gap.now.end ≤ length text.now }
-    requires short { length text.now ≤ MAX_LEN }
+    requires short { length text.now ≤ 4294967039 }
     requires long { 2 ≤ length text.now }
     ensures value { result ≡ found Kind.HashbangComment gap.now.end (2 + line_end (drop 2 text.now)) gap.now.newline false }
     ensures lands { IsCharBoundary text.now result.token.end }
@@ -50,7 +49,7 @@ fn hashbang_line(text: &str, gap: &GapMeasure) -> Found
 // What the token reader tells after the gap.
 fn told_after<R: TokenReader>(r: &R, text: &str, gap: &GapMeasure) -> Option<Found>
     requires cut { gap.now.end ≤ length text.now }
-    requires short { length text.now ≤ MAX_LEN }
+    requires short { length text.now ≤ 4294967039 }
     ensures value { result ≡ told_at gap.now (R.telling r.now text.now gap.now.end) }
     ensures lands { FoundLands text.now result }
 {
@@ -61,7 +60,7 @@ fn told_after<R: TokenReader>(r: &R, text: &str, gap: &GapMeasure) -> Option<Fou
 // The token after the gap, or none.
 pub(crate) fn token_after<R: TokenReader>(r: &R, text: &str, gap: &GapMeasure) -> Option<Found>
     requires cut { IsCharBoundary text.now gap.now.end }
-    requires short { length text.now ≤ MAX_LEN }
+    requires short { length text.now ≤ 4294967039 }
     ensures value { result ≡ token_after R.banged (R.telling r.now) text.now gap.now }
     ensures lands { FoundLands text.now result }
 {

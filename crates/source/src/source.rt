@@ -1,7 +1,6 @@
 // A text with a place in it.
 ghost use Rattle.std.specs.Prelude.{◌≤◌, length};
 ghost use Rattle.std.specs.Str.{IsCharBoundary};
-ghost use Rattle.source.specs.declared.source.TheConstants.{MAX_LEN};
 
 pub mod moves;
 
@@ -12,6 +11,6 @@ pub const MAX_LEN: usize = 4_294_967_039;
 pub struct Source<'a> {
     text: &'a str,
     place: usize,
-    ghost short: { length text.now ≤ MAX_LEN },
+    ghost short: { length text.now ≤ 4294967039 },
     ghost cut: { IsCharBoundary text.now place },
 }

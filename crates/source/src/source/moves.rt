@@ -11,8 +11,8 @@ use crate::unicode::char_at;
 impl<'a> Source<'a> {
     // The text at its start; one that is too long is replaced by the empty text.
     pub fn new(text: &'a str) -> Self
-        ensures fits { length text.now ≤ MAX_LEN → result.text ≡ text.entry }
-        ensures long { MAX_LEN < length text.now → text_of result ≡ [] }
+        ensures fits { length text.now ≤ 4294967039 → result.text ≡ text.entry }
+        ensures long { 4294967039 < length text.now → text_of result ≡ [] }
         ensures place { place_of result ≡ 0 }
     {
         if text.len() > MAX_LEN {
@@ -30,7 +30,7 @@ impl<'a> Source<'a> {
     pub fn offset_usize(&self) -> usize
         ensures value { result ≡ place_of self.now }
         ensures cut { IsCharBoundary (text_of self.now) result }
-        ensures short { length (text_of self.now) ≤ MAX_LEN }
+        ensures short { length (text_of self.now) ≤ 4294967039 }
         ensures utf8 { IsUtf8 (text_of self.now) }
     {
         self.place
