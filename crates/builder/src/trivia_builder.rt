@@ -20,7 +20,8 @@ use kinds::token::Token;
 use refusals::Refusal;
 use table::{Appended, Full, Row, Table};
 
-// A range with one row more: the first row of it stays, and this row is its last.
+// A range with one row more: the first row of it stays, and this row is its last. That a row's number is not the largest of all is asked
+// here and answered by `Table::find`, for no type says it.
 fn extend(range: Option<(usize, usize)>, row: usize) -> Option<(usize, usize)>
     requires { row < usize.MAX }
     ensures { result ≡ extended range row }
@@ -266,6 +267,7 @@ impl TriviaBuilder {
         Ok(())
     }
 
+    // A text with a start and an end, as oxc's calls have them.
     pub fn add_line_comment(
         &mut self,
         comments: &mut Table<'_, Comment>,

@@ -7,7 +7,7 @@ use std::alloc::{AllocError, AllocFailed};
 use std::error::Error;
 use std::fmt;
 
-// What the programs print for a case that has a malformed field.
+// What `scan_cases` prints for a case that has a malformed field.
 const MALFORMED: &str = "! a field that is missing, not hexadecimal, or repeated too often";
 
 #[derive(Clone, Copy, Debug, PartialEq, Eq)]

@@ -25,7 +25,7 @@ pub fn split_word(line: &str) -> (&str, &str)
     line.split_once(' ').unwrap_or((line, ""))
 }
 
-// Whether a text begins as a number from 1 on does: not with a zero, nor with a sign.
+// Whether the first byte is above `0`, so it is neither a zero nor a sign.
 fn begins_above_zero(count: &[u8]) -> bool
     ensures { result ≡ nat_lt 48 (slice_index count.now 0) }
 {
@@ -69,7 +69,7 @@ pub fn field_of(heap: Global, field: &str) -> Result<Vec<u8>, CaseError>
     ensures bytes { IfOk result (λ v. field_bytes field.now ≡ Some v.items) }
     ensures malformed { IsErrOf result CaseError.Malformed → field_bytes field.now ≡ None }
 {
-    let (digits, n) = digits_of(field, |count| repeats(count)).ok_or(CaseError::Malformed)?;
+    let (digits, n) = digits_of(field, repeats).ok_or(CaseError::Malformed)?;
     let mut once = Vec::new(heap);
     push_hex(&mut once, digits.as_bytes())?;
     Ok(once.as_slice().repeat(heap, n)?)

@@ -36,11 +36,11 @@ impl<'a> Out<'a> {
         ensures { Writes (decimal n) self.old self.new }
     {
         if n < 10 {
-            self.put((48 + n) as u8);
+            self.put(b'0' + n as u8);
             return;
         }
         self.put_decimal(n / 10);
-        self.put((48 + n % 10) as u8);
+        self.put(b'0' + (n % 10) as u8);
     }
 
     // The fields, each after one space.

@@ -9,8 +9,9 @@ use std::io::{BufRead, BufReader, Write};
 
 // The bytes of a field, which may be empty here, and whose count may be 0 or have a sign and zeros before it.
 fn loose_field(heap: Global, field: &str) -> Result<Vec<u8>, CaseError> {
-    let (digits, n) = digits_of(field, |count| loose_repeats(count)).ok_or(CaseError::Malformed)?;
+    let (digits, n) = digits_of(field, loose_repeats).ok_or(CaseError::Malformed)?;
     let mut bytes = Vec::new(heap);
+    // Pushed as often as they stand, for with a count of 0 the digits are not looked at.
     for _ in 0..n {
         push_pairs(&mut bytes, digits.as_bytes())?;
     }

@@ -77,7 +77,7 @@ impl<'t> Reader<'t> {
             tables.comments.last_start(),
             tables.spaces.last_start(),
         );
-        let found = token_after(r, self.source.whole(), &gap);
+        let found = token_after(r, &self.source, &gap);
         tables.fit(&gap, found)
     }
 

@@ -42,17 +42,14 @@ fn feed_block(
     let _ = builder.add_block_comment(&mut tables.comments, text, short(start), end, multi);
 }
 
-// One piece of the gap.
+// One piece of the gap. The builder and the tables go together here alone: one is the reader's, the others are the caller's.
 fn feed_piece(builder: &mut TriviaBuilder, tables: &mut Tables<'_>, text: &str, piece: &Piece<'_>)
     ensures fed { FedBy text.now piece.now.start piece.now.end (shape_of piece.now.trivia) (fed_state builder.old tables.old) (fed_state builder.new tables.new) }
     ensures tokens { tables.new.tokens ≡ tables.old.tokens }
     ensures lenders { SameLenders tables.old tables.new }
 {
     let start = short(piece.start);
-    if matches!(
-        piece.trivia,
-        Trivia::IrregularWhitespace | Trivia::IrregularLineBreak
-    ) {
+    if piece.trivia.is_irregular() {
         let _ = builder.add_irregular_whitespace(&mut tables.spaces, start, short(piece.end));
     }
     match piece.trivia {
@@ -74,14 +71,15 @@ fn feed_piece(builder: &mut TriviaBuilder, tables: &mut Tables<'_>, text: &str, 
     }
 }
 
-// All pieces of the gap at the source's place.
+// All pieces of the gap at the source's place; a block without an end is none. The place moves from piece to piece, here and where the gap
+// is measured: an iterator of pieces would be one more type with laws.
 pub(crate) fn feed_gap(builder: &mut TriviaBuilder, tables: &mut Tables<'_>, source: &Source<'_>)
     ensures fed { Fed (text_of source.now) (place_of source.now) (fed_state builder.old tables.old) (fed_state builder.new tables.new) }
     ensures tokens { tables.new.tokens ≡ tables.old.tokens }
     ensures lenders { SameLenders tables.old tables.new }
 {
     let mut ahead = *source;
-    while let Ok(Some(piece)) = piece_at(&ahead) {
+    while let Some(piece) = piece_at(&ahead).unwrap_or(None) {
         feed_piece(builder, tables, source.whole(), &piece);
         ahead.set_position(piece.end);
     }

@@ -19,7 +19,7 @@ pub struct Unterminated {
     pub multi: bool,
 }
 
-// How many bytes the line terminator at the front takes, or 0; the text goes on after that many, so 0 is no special case.
+// How many bytes the line terminator at the front takes, or 0: the text goes on after that many, whether one stands there or not.
 fn terminator_width(rest: &[u8]) -> usize
     ensures value { result ≡ terminator rest.now }
     ensures within { result ≤ length rest.now }
@@ -41,7 +41,8 @@ pub fn terminator_at(text: &[u8], at: usize) -> usize
 }
 
 // The end of the line that goes on at `from`: the first line terminator, or the end of the text; a place past the end is the answer itself.
-// The search is stepped here and for a block: an iterator over its matches would be one more type with laws, for two short loops.
+// The search is stepped here and for a block, since there is one search over the byte tables: an iterator over its matches would be one
+// more type with laws, for two short loops.
 pub fn skip_single_line_comment(text: &[u8], from: usize) -> usize
     ensures end { result ≡ from + line_end (drop from text.now) }
     ensures line { from ≤ length text.now → LineEnds text.now from result }

@@ -23,7 +23,7 @@ pub struct GapMeasure {
     pub unterminated: bool,
 }
 
-// Whether a start lies after another, if there is one.
+// Whether a start lies after another, if there is one. A table asks the same of its own last row; the scanner knows no tables.
 fn is_after(last: Option<usize>, start: usize) -> bool
     ensures { result ≡ after last start }
 {
@@ -31,7 +31,7 @@ fn is_after(last: Option<usize>, start: usize) -> bool
 }
 
 impl GapMeasure {
-    // The gap with one piece more. The two last starts stay apart: callers hold them in two tables, and only this asks for both.
+    // The gap with one piece more. The two last starts stay apart: callers hold them in two tables, and nothing but this measure asks for both.
     fn with_piece(
         self,
         piece: &Piece<'_>,

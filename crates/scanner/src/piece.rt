@@ -45,7 +45,7 @@ impl Trivia<'_> {
     }
 
     // Whether it is recorded as an irregular space.
-    pub(crate) fn is_irregular(&self) -> bool
+    pub fn is_irregular(&self) -> bool
         ensures { result ≡ irregular_shape (shape_of self.now) }
     {
         matches!(

@@ -56,7 +56,8 @@ fn list_settings(text: &[u8], out: &mut [u8]) -> Result<usize, Refusal>
     list(&reader, &tables, out)
 }
 
-// What the program prints of a text: its listing, or the line of the refusal. The answer is how many bytes of the buffer that takes.
+// What the program prints of a text: its listing, or the line of the refusal. The answer is how many bytes of the buffer that takes, as
+// a read of the library answers.
 pub fn answer(text: &[u8], out: &mut [u8]) -> usize
     ensures too_long { 32768 < length text.now → out.new ≡ laid out.old 0 (refusal_line TooLong) }
     ensures not_utf8 { length text.now ≤ 32768 → (IsUtf8 text.now → ⊥) → out.new ≡ laid out.old 0 (refusal_line NotUtf8) }
