@@ -1,2 +1,3 @@
 pub mod Over
 mod Spans
+mod Told
