@@ -1,10 +1,16 @@
 -- The bytes of the fields of a line, one after another.
-use Rattle.std.proofs.Common.{◌≡◌, ℕ, zero, suc, ◌<◌, List, [], ◌∷◌, ◌++◌, length, get_or, Some, None, Option, sym, refl, ap, ◌∙◌, append_assoc, arith}
+use Rattle.std.proofs.Common.{◌≡◌, ℕ, zero, suc, ◌<◌, cond, List, [], ◌∷◌, ◌++◌, length, get_or, Some, None, Option, sym, refl, ap, ◌∙◌, append_assoc, arith}
 use Rattle.std.proofs.lemmas.List.{append-nil}
+use Rattle.std.proofs.lemmas.Bool.{ne_eqb}
 use Rattle.std.specs.List.{repeat}
 use Rattle.std.specs.Option.{option_map}
-use Rattle.cases.specs.Hex.{some_bytes}
-use Rattle.cases.specs.Fields.{word_of, times_of, multiplied, field_bytes, fields_of, joined, gathered, text_of}
+use Rattle.cases.specs.Hex.{hex_bytes, some_bytes}
+use Rattle.cases.specs.Fields.{word_of, loose_times, counted, times_of, multiplied, field_bytes, loosely, loose_bytes, fields_of, joined, gathered, text_of}
+
+-- bytes that were added to no others
+alone : (empty once : List ℕ) → empty ≡ [] → (o : Option (List ℕ)) → option_map (λ bs. empty ++ bs) o ≡ Some once → o ≡ Some once
+alone empty once none (Some bs) k = ap (λ xs. Some (xs ++ bs)) (sym none) ∙ k
+alone empty once none None k = cc
 
 -- the bytes of a field by its digits and how often they stand
 pub uncounted : (field : List ℕ) → times_of field ≡ None → field_bytes field ≡ None
@@ -18,11 +24,27 @@ module _ (field digits : List ℕ) (n : ℕ) (word : digits ≡ word_of 42 field
   unspelt e = by_digits None e
 
   pub spelt : (empty once bytes : List ℕ) → empty ≡ [] → option_map (λ bs. empty ++ bs) (some_bytes digits) ≡ Some once → bytes ≡ repeat n once → field_bytes field ≡ Some bytes
-  spelt empty once bytes none h e = by_digits (Some once) (alone (some_bytes digits) h) ∙ ap (λ ys. Some ys) (sym e)
-    where
-      alone : (o : Option (List ℕ)) → option_map (λ bs. empty ++ bs) o ≡ Some once → o ≡ Some once
-      alone (Some bs) k = ap (λ xs. Some (xs ++ bs)) (sym none) ∙ k
-      alone None k = cc
+  spelt empty once bytes none h e = by_digits (Some once) (alone empty once none (some_bytes digits) h) ∙ ap (λ ys. Some ys) (sym e)
+
+-- the same for a field that is read loosely
+pub uncounted_loosely : (field : List ℕ) → counted loose_times field ≡ None → loose_bytes field ≡ None
+uncounted_loosely field e = ap (λ t. loosely t (word_of 42 field)) e
+
+module _ (field digits : List ℕ) (n : ℕ) (word : digits ≡ word_of 42 field) (count : counted loose_times field ≡ Some n) where
+  pub never : n ≡ 0 → loose_bytes field ≡ Some []
+  never z = ap (λ t. loosely t (word_of 42 field)) (count ∙ ap (λ m. Some m) z)
+
+  by_digits_loosely : (n ≡ 0 → ⊥) → (o : Option (List ℕ)) → hex_bytes digits ≡ o → loose_bytes field ≡ multiplied (Some n) o
+  by_digits_loosely some o e =
+      ap (λ t. loosely t (word_of 42 field)) count
+      ∙ ap (λ b. cond b (Some []) (multiplied (Some n) (hex_bytes (word_of 42 field)))) (ne_eqb n 0 some)
+      ∙ ap (multiplied (Some n)) (ap hex_bytes (sym word) ∙ e)
+
+  pub unspelt_loosely : (n ≡ 0 → ⊥) → hex_bytes digits ≡ None → loose_bytes field ≡ None
+  unspelt_loosely some e = by_digits_loosely some None e
+
+  pub spelt_loosely : (n ≡ 0 → ⊥) → (empty once bytes : List ℕ) → empty ≡ [] → option_map (λ bs. empty ++ bs) (hex_bytes digits) ≡ Some once → bytes ≡ repeat n once → loose_bytes field ≡ Some bytes
+  spelt_loosely some empty once bytes none h e = by_digits_loosely some (Some once) (alone empty once none (hex_bytes digits) h) ∙ ap (λ ys. Some ys) (sym e)
 
 joined_none : (o : Option (List ℕ)) → joined o None ≡ None
 joined_none (Some xs) = refl

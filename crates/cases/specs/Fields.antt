@@ -1,11 +1,9 @@
 -- The fields of a case line, as docs/FORMATS.md has them.
-use Rattle.std.specs.Prelude.{◌≡◌, ℕ, ◌+◌, ◌-◌, ◌*◌, Bool, cond, ◌&&◌, ◌||◌, List, [], ◌∷◌, ◌++◌, length, Some, None, Option, Result, IfOk, IsErrOf, Vec, vec_items, ◌==◌, nat_le, nat_lt, slice_index}
+use Rattle.std.specs.Prelude.{◌≡◌, ℕ, ◌+◌, ◌-◌, ◌*◌, Bool, cond, ◌&&◌, ◌||◌, List, [], ◌∷◌, ◌++◌, length, Some, None, Option, ◌==◌, nat_le, nat_lt, slice_index}
 use Rattle.std.specs.List.{after_first, before_first, list_any, repeat, slice_split}
 use Rattle.std.specs.Str.{all_ascii_digits}
 use Rattle.std.specs.Str.Parse.{without_leading_plus}
-use Rattle.cases.specs.declared.error.CaseError.{CaseError}
-use Rattle.cases.specs.declared.error.CaseError.TheVariants.{Malformed}
-use Rattle.cases.specs.Hex.{some_bytes}
+use Rattle.cases.specs.Hex.{hex_bytes, some_bytes}
 
 -- a line that is blank or begins with #
 abbrev pub skipped : List ℕ → Bool
@@ -59,9 +57,14 @@ multiplied None o = None
 abbrev pub field_bytes : List ℕ → Option (List ℕ)
 field_bytes field = multiplied (times_of field) (some_bytes (word_of 42 field))
 
--- each call gives the bytes that the definition has, or is malformed where it has none
-abbrev pub Spells : {Z : Type 0} → (List ℕ → Result (Vec ℕ Z) CaseError → Type 0) → (List ℕ → Option (List ℕ)) → Type 0
-Spells call bytes = (field : List ℕ) (r : Result (Vec ℕ _) CaseError) → call field r → IfOk r (λ v. bytes field ≡ Some (vec_items v)) × (IsErrOf r Malformed → bytes field ≡ None)
+-- so many times the bytes that the digits spell, if there is a count; none of them, whatever the digits, where that is 0
+abbrev pub loosely : Option ℕ → List ℕ → Option (List ℕ)
+loosely (Some n) digits = cond (n == 0) (Some []) (multiplied (Some n) (hex_bytes digits))
+loosely None digits = None
+
+-- the bytes of a field, read loosely
+abbrev pub loose_bytes : List ℕ → Option (List ℕ)
+loose_bytes field = loosely (counted loose_times field) (word_of 42 field)
 
 -- the fields of a line, cut at each space
 abbrev pub fields_of : List ℕ → List (List ℕ)

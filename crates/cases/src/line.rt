@@ -1,10 +1,10 @@
 // The lines of a case file.
 ghost use Rattle.std.specs.Prelude.{◌≡◌, ℕ, List, IfOk, IsErrOf, Some, None, Option, MatchOption, nat_lt, slice_index};
-ghost use Rattle.std.specs.Fn.{FnReturnsAt, FnOnceReturnsAt};
-ghost use Rattle.cases.specs.Fields.{skipped, word_of, rest_of, times, loose_times, counted, Gives, field_bytes, Spells, fields_of, gathered, text_of};
+ghost use Rattle.std.specs.Fn.{FnOnceReturnsAt};
+ghost use Rattle.cases.specs.Fields.{skipped, word_of, rest_of, times, loose_times, counted, Gives, field_bytes, loose_bytes, fields_of, gathered, text_of};
 
 use crate::error::CaseError;
-use crate::hex::push_hex;
+use crate::hex::{push_hex, push_pairs};
 use std::alloc::Global;
 
 // The most times that a field may be repeated.
@@ -33,7 +33,7 @@ fn begins_above_zero(count: &[u8]) -> bool
 }
 
 // A count up to the limit, before which a plus sign and zeros may stand.
-pub fn loose_repeats(count: &str) -> Option<usize>
+fn loose_repeats(count: &str) -> Option<usize>
     ensures { result ≡ loose_times count.now }
 {
     count.parse::<usize>().ok().filter(|n| *n <= REPEATS)
@@ -51,10 +51,7 @@ fn repeats(count: &str) -> Option<usize>
 }
 
 // The digits of a field, and how often they stand by the rule for counts; none where that takes no such count.
-pub fn digits_of<F: FnOnce(&str) -> Option<usize>>(
-    field: &str,
-    count_of: F,
-) -> Option<(&str, usize)>
+fn digits_of<F: FnOnce(&str) -> Option<usize>>(field: &str, count_of: F) -> Option<(&str, usize)>
     requires { F.IsAlwaysCallable count_of }
     ensures { (t : List ℕ → Option ℕ) → Gives (FnOnceReturnsAt F.FnOnce count_of) t → MatchOption result (counted t field.now ≡ None) (λ p. (p.0.now ≡ word_of 42 field.now) × (counted t field.now ≡ Some p.1)) }
 {
@@ -75,19 +72,53 @@ pub fn field_of(heap: Global, field: &str) -> Result<Vec<u8>, CaseError>
     Ok(once.as_slice().repeat(heap, n)?)
 }
 
-// The bytes of all the fields in a row, each by the rule for a field.
-pub fn gather<F: Fn(&str) -> Result<Vec<u8>, CaseError>>(
-    heap: Global,
-    fields: &str,
-    bytes_of: F,
-) -> Result<Vec<u8>, CaseError>
-    requires { F.IsAlwaysCallable bytes_of }
-    ensures bytes { (b : List ℕ → Option (List ℕ)) → Spells (FnReturnsAt F.Fn bytes_of) b → IfOk result (λ v. gathered b (fields_of fields.now) ≡ Some v.items) }
-    ensures malformed { (b : List ℕ → Option (List ℕ)) → Spells (FnReturnsAt F.Fn bytes_of) b → IsErrOf result CaseError.Malformed → gathered b (fields_of fields.now) ≡ None }
+// How a field of a case is read.
+pub trait FieldRule {
+    // The bytes that a field spells, if it is well-formed.
+    ghost spelt: { List ℕ → Option (List ℕ) };
+
+    fn bytes_of(heap: Global, field: &str) -> Result<Vec<u8>, CaseError>
+        ensures bytes { IfOk result (λ v. spelt field.now ≡ Some v.items) }
+        ensures malformed { IsErrOf result CaseError.Malformed → spelt field.now ≡ None };
+}
+
+// The rule of `scan_cases`: some digits, and a count that is above 0 and written plainly.
+pub struct Strict;
+
+impl FieldRule for Strict {
+    ghost spelt = { field_bytes };
+
+    fn bytes_of(heap: Global, field: &str) -> Result<Vec<u8>, CaseError> {
+        field_of(heap, field)
+    }
+}
+
+// The rule of `lock_cases`: there may be no digits, and the count may be 0 or have a sign and zeros before it.
+pub struct Loose;
+
+impl FieldRule for Loose {
+    ghost spelt = { loose_bytes };
+
+    fn bytes_of(heap: Global, field: &str) -> Result<Vec<u8>, CaseError> {
+        let (digits, n) = digits_of(field, loose_repeats).ok_or(CaseError::Malformed)?;
+        if n == 0 {
+            // The digits are not looked at.
+            return Ok(Vec::new(heap));
+        }
+        let mut bytes = Vec::new(heap);
+        push_pairs(&mut bytes, digits.as_bytes())?;
+        Ok(bytes.as_slice().repeat(heap, n)?)
+    }
+}
+
+// The bytes of all the fields in a row.
+pub fn gather<R: FieldRule>(heap: Global, fields: &str) -> Result<Vec<u8>, CaseError>
+    ensures bytes { IfOk result (λ v. gathered R.spelt (fields_of fields.now) ≡ Some v.items) }
+    ensures malformed { IsErrOf result CaseError.Malformed → gathered R.spelt (fields_of fields.now) ≡ None }
 {
     let mut text = Vec::new(heap);
     for field in fields.split(' ') {
-        let bytes = bytes_of(field)?;
+        let bytes = R::bytes_of(heap, field)?;
         text.extend_from_slice(bytes.as_slice())?;
     }
     Ok(text)
@@ -101,5 +132,5 @@ pub fn text_of(heap: Global, fields: &str) -> Result<Vec<u8>, CaseError>
     if fields.is_empty() {
         return Ok(Vec::new(heap));
     }
-    gather(heap, fields, |field| field_of(heap, field))
+    gather::<Strict>(heap, fields)
 }
