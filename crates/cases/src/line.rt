@@ -93,7 +93,7 @@ impl FieldRule for Strict {
     }
 }
 
-// The rule of `lock_cases`: there may be no digits, and the count may be 0 or have a sign and zeros before it.
+// The rule of `lock_cases`: there may be no digits, and the count may be 0 or have a plus sign and zeros before it.
 pub struct Loose;
 
 impl FieldRule for Loose {

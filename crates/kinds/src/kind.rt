@@ -401,7 +401,7 @@ const KEEPS_LINE_COMMENT_LEADING: [bool; 169] = [
     false, false, false, false, false, false, false, false, false, false, false, false,
 ];
 
-// Each question indexes its own table: a helper that takes the table would be no plainer.
+// Each of the three questions indexes its own table: a helper that takes the table would be no plainer.
 impl Kind {
     // Whether a kind is another. The derived `==` says it; here stands what that promises.
     pub fn is(self, other: Kind) -> bool

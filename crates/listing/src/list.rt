@@ -21,7 +21,8 @@ fn lay_out(buffer: &mut [u8], tables: &Tables<'_>, text_len: u64) -> usize
     out.len()
 }
 
-// Lists what the tables have on record. The answer is how many bytes the listing has; the others of the buffer are left alone.
+// Lists what the tables have on record. The answer is how many bytes the listing has, as a read of the library answers; the others of
+// the buffer are left alone.
 pub fn list(reader: &Reader<'_>, tables: &Tables<'_>, buffer: &mut [u8]) -> Result<usize, Refusal>
     ensures answer { result ≡ listed (opening_refusal reader.now.opening) (listing_of tables.now (length (reader_text reader.now))) (length buffer.old) }
     ensures bytes { buffer.new ≡ listed_bytes result (listing_of tables.now (length (reader_text reader.now))) buffer.old }

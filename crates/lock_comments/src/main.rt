@@ -7,7 +7,7 @@ use std::io;
 use std::io::{Read, Write};
 
 // Reads until the input ends or the buffer is full; the answer is how many bytes were read.
-// It stands beside the buffer, which is of a fixed size: the program takes no memory.
+// The count stands beside the buffer, which is of a fixed size: the program takes no memory.
 fn read_text(rt: &HostRuntime, text: &mut [u8]) -> io::Result<usize>
     ensures { IfOk result (λ n. n ≤ length text.old) }
 {

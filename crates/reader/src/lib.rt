@@ -48,7 +48,7 @@ impl Error for OpenError {}
 
 #[derive(Drop)]
 pub struct Reader<'t> {
-    // Whether the text was opened. Where it was not, the source is the empty text.
+    // Whether the text was opened. Where it was not, the source is the empty text, so that each call has a source.
     opening: Result<(), OpenError>,
     source: Source<'t>,
     builder: TriviaBuilder,

@@ -31,7 +31,7 @@ fn terminator_width(rest: &[u8]) -> usize
     }
 }
 
-// How many bytes the line terminator at a place takes, or 0.
+// How many bytes the line terminator at a place takes, or 0: a count, since the text goes on after that many either way.
 pub fn terminator_at(text: &[u8], at: usize) -> usize
     ensures value { result ≡ term (slice_index text.now at) (slice_index text.now (at + 1)) (slice_index text.now (at + 2)) }
     ensures stands { (0 < result → OneFrom line_terminator text.now at (at + result)) × (LineTerminatorAt text.now at → 0 < result) }

@@ -38,8 +38,8 @@ impl fmt::Display for Full {
 impl Error for Full {}
 
 // The first `count` rows are on record; the others are the caller's.
-// The count stands beside the rows, since they are the caller's, and any count may: who makes a table by hand is asked for nothing.
-// Clauses named `lender` say that the rows are lent by whom they were; no invariant can, as that is about two moments.
+// The count stands beside the rows, since they are the caller's, and it may be any number: who makes a table by hand is asked for nothing.
+// Clauses named `lender` say that the rows are still lent by the same lender; no invariant can, as that is about two moments.
 #[derive(Drop)]
 pub struct Table<'a, T> {
     pub rows: &'a mut [T],

@@ -8,7 +8,7 @@ ghost use Rattle.tokens.specs.Fairness.{fair_json};
 use crate::token_reader::{TokenReader, Told};
 use kinds::kind::Kind;
 
-// All below take the text with a place, as the definitions do and a token reader is asked.
+// Most below take the bytes with a place, as the definitions do and a token reader is asked.
 
 // The byte at a place, or 0 past the end, which begins no token.
 fn byte_at(bytes: &[u8], place: usize) -> u8

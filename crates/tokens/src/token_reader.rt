@@ -20,6 +20,7 @@ pub trait TokenReader {
 
     ghost telling: { Self → Telling };
 
+    // The same for calls: a clause ties this answer to `banged`, and none can tie the constant.
     fn begins_banged() -> bool
         ensures { result ≡ banged };
 
