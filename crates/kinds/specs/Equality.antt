@@ -1,6 +1,6 @@
 -- What `==` says of two kinds: it compares their numbers, and is true of one kind alone.
 use Rattle.std.specs.Prelude.{◌≡◌, Bool, Decides, ◌==◌}
-use Rattle.std.proofs.Common.{ap, ◌∙◌, arith}
+use Rattle.std.proofs.Common.{sym, subst, ap, ◌∙◌, arith}
 use denote.Enum.Bare.{sameb, same_true, true_same}
 use denote.Enum.Declared.{tag_of}
 use Rattle.kinds.specs.Kinds.{number_of}
@@ -20,3 +20,10 @@ equal_value j k = ap (λ n. n == tag_of the_type k) (tag_number j) ∙ ap (λ n.
 
 pub equal_same : (j k : Kind) → Decides (equal j k) (j ≡ k)
 equal_same j k = (same_true the_type tt j k, true_same the_type j k)
+
+-- the same of whatever answers as `==` does
+pub is_value : (j k : Kind) (b : Bool) → b ≡ equal j k → b ≡ (number_of j == number_of k)
+is_value j k b e = e ∙ equal_value j k
+
+pub is_same : (j k : Kind) (b : Bool) → b ≡ equal j k → Decides b (j ≡ k)
+is_same j k b e = let Is : Bool → Type 0 = λ r. Decides r (j ≡ k) in subst Is (sym e) (equal_same j k)

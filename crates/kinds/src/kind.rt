@@ -404,6 +404,7 @@ const KEEPS_LINE_COMMENT_LEADING: [bool; 169] = [
 // Each of the three questions indexes its own table: a helper that takes the table would be no plainer.
 impl Kind {
     // Whether a kind is another. The derived `==` says it; here stands what that promises.
+    #[tactic(auto, using(crate::specs::Equality::is_value))]
     pub fn is(self, other: Kind) -> bool
         ensures value { result ≡ (number_of self == number_of other) }
         ensures same { Decides result (self ≡ other) }
