@@ -1,3 +1,2 @@
 pub mod Over
 mod Spans
-mod Told

@@ -1,8 +1,6 @@
 use Rattle.std.proofs.Common.{sym, ◌∙◌, arith}
 use Rattle.std.proofs.lemmas.Bool.Decides.{nat_tests}
-use Rattle.std.proofs.lemmas.List.{at_drop_all}
-use Rattle.tokens.specs.Json.{string_from}
-use Rattle.tokens.specs.Strings.{string_more}
+use Rattle.tokens.specs.Strings.{string_more, string_all}
 use Rattle.tokens.proofs.json.string_end.Goals as goal
 use Rattle.tokens.proofs.json.string_end.Goals.{then-escaped, else-escaped+in_default-2}
 
@@ -13,4 +11,4 @@ loop-place-preserved c =
     elim c.if-escaped.branch [ then-escaped w ↦ grind (arith, nat_tests) | else-escaped+in_default-2 w ↦ grind (arith, nat_tests) ]
 
 pub returns : goal.returns
-returns c = sym (at_drop_all (string_from c.loop-place.escaped c.loop-place.place) c.args.bytes.now c.loop-place.place (omega arith)) ∙ c.loop-place.invariant
+returns c = sym (string_all c.loop-place.escaped c.loop-place.place c.args.bytes.now c.loop-place.place (omega arith)) ∙ c.loop-place.invariant
