@@ -1,11 +1,13 @@
 // The lines of a case file.
-ghost use Rattle.std.specs.Prelude.{◌≡◌, ℕ, List, IfOk, IsErrOf, Some, None, Option, MatchOption, nat_lt, slice_index};
+ghost use Rattle.std.specs.Prelude.{◌≡◌, ℕ, ◌<◌, ◌≤◌, List, ◌++◌, length, take, drop, IfOk, OnOk, IsErrOf, Some, None, Option, MatchOption, nat_lt, slice_index};
 ghost use Rattle.std.specs.Fn.{FnOnceReturnsAt};
+ghost use Rattle.std.specs.List.{repeat};
+ghost use Rattle.std.specs.Option.{option_map};
 ghost use Rattle.cases.specs.Fields.{skipped, word_of, rest_of, times, loose_times, counted, Gives, field_bytes, loose_bytes, fields_of, gathered, text_of};
 
 use crate::error::CaseError;
 use crate::hex::{push_hex, push_pairs};
-use std::alloc::Global;
+use std::alloc::{AllocError, Global};
 
 // The most times that a field may be repeated.
 const REPEATS: usize = 40_000;
@@ -66,10 +68,22 @@ pub fn field_of(heap: Global, field: &str) -> Result<Vec<u8>, CaseError>
     ensures bytes { IfOk result (λ v. field_bytes field.now ≡ Some v.items) }
     ensures malformed { IsErrOf result CaseError.Malformed → field_bytes field.now ≡ None }
 {
-    let (digits, n) = digits_of(field, repeats).ok_or(CaseError::Malformed)?;
-    let mut once = Vec::new(heap);
-    push_hex(&mut once, digits.as_bytes())?;
-    Ok(once.as_slice().repeat(heap, n)?)
+    let mut bytes = Vec::new(heap);
+    Strict::push_bytes(&mut bytes, field)?;
+    Ok(bytes)
+}
+
+// Repeats what stands from `from` on, so that it stands `n` times.
+fn push_times(text: &mut Vec<u8>, from: usize, n: usize) -> Result<(), AllocError>
+    requires once { 0 < n }
+    requires within { from ≤ length text.old.items }
+    ensures { OnOk result (text.new.items ≡ take from text.old.items ++ repeat n (drop from text.old.items)) }
+{
+    let to = text.len();
+    for _i in 1..n {
+        text.extend_from_within(from..to)?;
+    }
+    Ok(())
 }
 
 // How a field of a case is read.
@@ -79,6 +93,11 @@ pub trait FieldRule {
 
     fn bytes_of(heap: Global, field: &str) -> Result<Vec<u8>, CaseError>
         ensures bytes { IfOk result (λ v. spelt field.now ≡ Some v.items) }
+        ensures malformed { IsErrOf result CaseError.Malformed → spelt field.now ≡ None };
+
+    // Adds the bytes that a field spells to the end of a text, with no copy of them apart.
+    fn push_bytes(text: &mut Vec<u8>, field: &str) -> Result<(), CaseError>
+        ensures added { OnOk result (option_map (λ bs. text.old.items ++ bs) (spelt field.now) ≡ Some text.new.items) }
         ensures malformed { IsErrOf result CaseError.Malformed → spelt field.now ≡ None };
 }
 
@@ -91,6 +110,13 @@ impl FieldRule for Strict {
     fn bytes_of(heap: Global, field: &str) -> Result<Vec<u8>, CaseError> {
         field_of(heap, field)
     }
+
+    fn push_bytes(text: &mut Vec<u8>, field: &str) -> Result<(), CaseError> {
+        let (digits, n) = digits_of(field, repeats).ok_or(CaseError::Malformed)?;
+        let from = text.len();
+        push_hex(text, digits.as_bytes())?;
+        Ok(push_times(text, from, n)?)
+    }
 }
 
 // The rule of `lock_cases`: there may be no digits, and the count may be 0 or have a plus sign and zeros before it.
@@ -100,14 +126,20 @@ impl FieldRule for Loose {
     ghost spelt = { loose_bytes };
 
     fn bytes_of(heap: Global, field: &str) -> Result<Vec<u8>, CaseError> {
+        let mut bytes = Vec::new(heap);
+        Self::push_bytes(&mut bytes, field)?;
+        Ok(bytes)
+    }
+
+    fn push_bytes(text: &mut Vec<u8>, field: &str) -> Result<(), CaseError> {
         let (digits, n) = digits_of(field, loose_repeats).ok_or(CaseError::Malformed)?;
         if n == 0 {
             // The digits are not looked at.
-            return Ok(Vec::new(heap));
+            return Ok(());
         }
-        let mut bytes = Vec::new(heap);
-        push_pairs(&mut bytes, digits.as_bytes())?;
-        Ok(bytes.as_slice().repeat(heap, n)?)
+        let from = text.len();
+        push_pairs(text, digits.as_bytes())?;
+        Ok(push_times(text, from, n)?)
     }
 }
 
@@ -118,8 +150,7 @@ pub fn gather<R: FieldRule>(heap: Global, fields: &str) -> Result<Vec<u8>, CaseE
 {
     let mut text = Vec::new(heap);
     for field in fields.split(' ') {
-        let bytes = R::bytes_of(heap, field)?;
-        text.extend_from_slice(bytes.as_slice())?;
+        R::push_bytes(&mut text, field)?;
     }
     Ok(text)
 }

@@ -1,14 +1,10 @@
--- A word at the front of the bytes, what is left past the blanks, and the search for a license word.
-use Rattle.std.proofs.Common.{◌≡◌, ℕ, zero, suc, ◌+◌, Bool, true, false, cond, eqb, ◌&&◌, ◌||◌, List, [], ◌∷◌, ◌++◌, length, get_or, take, drop, codes, Some, None, Option, Bor, MatchOption, sym, refl, ap, ◌∙◌, one-add, arith}
+-- A word at the front of the bytes, and the search for a license word.
+use Rattle.std.proofs.Common.{◌≡◌, ℕ, ◌+◌, Bool, true, false, eqb, ◌&&◌, ◌||◌, List, [], ◌∷◌, ◌++◌, length, take, drop, drop-drop, codes, Some, None, Option, Bor, MatchOption, sym, refl, ap, ◌∙◌, arith}
 use Rattle.std.specs.Cmp.Lexicographic.{pointwise}
-use Rattle.std.specs.Char.{is_ascii_whitespace}
-use Rattle.std.specs.Str.{IsTrimAsciiStart}
-use Rattle.std.specs.List.{list_any, prefix_len, range_with_len}
+use Rattle.std.specs.List.{list_any, enumerate_from}
 use Rattle.std.proofs.lemmas.Slice.Eq.{starts_is, strip_prefix_is}
-use Rattle.std.proofs.lemmas.List.{drop_more, at_drop_all}
 use Rattle.std.proofs.lemmas.Bool.Decides.{Decides-eqb, nat_tests}
-use Rattle.std.proofs.lemmas.Str.Ascii.{trim_ascii_start_is}
-use Rattle.comments.specs.Classing.{begins, holds, license_ahead, licensed, blank, past, skip_blanks, after}
+use Rattle.comments.specs.Classing.{begins, holds, license_ahead, licensed, after}
 
 pub begins_front : (word bytes : List ℕ) → begins word bytes ≡ true → bytes ≡ word ++ drop (length word) bytes
 begins_front word bytes h = (starts_is Decides-eqb bytes word (begins word bytes) refl).0 h
@@ -27,21 +23,6 @@ begins_then word bytes q (Some x) t h f each =
     let here : begins word bytes ≡ true = ap (begins word) (strip_prefix_is Decides-eqb bytes word (Some x) h) ∙ front_begins word x.now in
     each x f ∙ ap q h.1 ∙ rw here refl
 
--- what is left past a front that passes a test, by the front's length in the library's words
-past_prefix : (p q : ℕ → Bool) (xs : List ℕ) → ((x : ℕ) → p x ≡ q x) → drop (prefix_len p xs) xs ≡ past q xs
-past_prefix p q [] same = refl
-past_prefix p q (x ∷ xs) same = by_test (p x) (q x) (same x) (past_prefix p q xs same)
-  where
-    by_test : (s t : Bool) → s ≡ t → drop (prefix_len p xs) xs ≡ past q xs → drop (cond s (1 + prefix_len p xs) 0) (x ∷ xs) ≡ cond t (past q xs) (x ∷ xs)
-    by_test true true h e = rw one-add e
-    by_test true false h e = cc
-    by_test false true h e = cc
-    by_test false false h e = refl
-
--- `trim_ascii_start` skips the blanks
-pub skips_blanks : (bytes rest : List ℕ) → IsTrimAsciiStart bytes rest → rest ≡ skip_blanks bytes
-skips_blanks bytes rest h = trim_ascii_start_is bytes rest h ∙ past_prefix is_ascii_whitespace blank bytes (λ b. grind (arith, nat_tests))
-
 -- either word here or later is a word here or later
 turned : (a x b y : Bool) → ((a || b) || (x || y)) ≡ ((a || x) || (b || y))
 turned true x b y = refl
@@ -53,9 +34,20 @@ licensed_from : (b : ℕ) (bytes : List ℕ) → (license_ahead (b ∷ bytes) ||
 licensed_from b bytes =
     turned (begins (codes "@license") (b ∷ bytes)) (holds (codes "@license") bytes) (begins (codes "@preserve") (b ∷ bytes)) (holds (codes "@preserve") bytes)
 
--- the search for a license word at each place
-pub searched : (xs : List ℕ) (n i : ℕ) → i + n ≡ length xs → list_any (λ j. license_ahead (drop j xs)) (range_with_len i n) ≡ licensed (drop i xs)
-searched xs zero i e = sym (at_drop_all licensed xs i (omega arith))
-searched xs (suc n) i e =
-    ap (λ (t : Bool). license_ahead (drop i xs) || t) (searched xs n (i + 1) (omega arith))
-    ∙ rw (drop_more xs i 0 (omega arith)) (licensed_from (get_or xs i 0) (drop (i + 1) xs))
+-- what each license word begins with
+abbrev pub at_sign : ℕ → Bool
+at_sign b = eqb b 64
+
+sign_ahead : (b : ℕ) (bytes : List ℕ) → (at_sign b && license_ahead (b ∷ bytes)) ≡ license_ahead (b ∷ bytes)
+sign_ahead b bytes = by_test (eqb b 64) refl
+  where
+    by_test : (t : Bool) → eqb b 64 ≡ t → (t && license_ahead (b ∷ bytes)) ≡ license_ahead (b ∷ bytes)
+    by_test true h = refl
+    by_test false h = let other : eqb 64 b ≡ false = grind (arith, nat_tests, h) in rw other refl
+
+-- the search for a license word at each sign
+pub searched : (xs ys : List ℕ) (i : ℕ) → drop i xs ≡ ys → list_any (λ (p : ℕ × ℕ). at_sign p.1 && license_ahead (drop p.0 xs)) (enumerate_from i ys) ≡ licensed ys
+searched xs [] i e = refl
+searched xs (y ∷ ys) i e =
+    let next : drop (i + 1) xs ≡ ys = sym (drop-drop 1 i xs) ∙ ap (drop 1) e in
+    rw e (rw (sign_ahead y ys) (ap (λ (t : Bool). license_ahead (y ∷ ys) || t) (searched xs ys (i + 1) next) ∙ licensed_from y ys))

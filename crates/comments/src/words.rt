@@ -3,10 +3,15 @@ ghost use Rattle.std.specs.Prelude.{◌≡◌};
 ghost use Rattle.comments.specs.Classing.{license_ahead, licensed, stars, skip_blanks, marked, capital_after, directive};
 
 // What stands past the leading blanks, which are the library's ASCII white space.
+// By a pattern, since the walk of the library's method has more to do at each byte.
 pub(crate) fn skip_blanks(bytes: &[u8]) -> &[u8]
     ensures { result.now ≡ skip_blanks bytes.now }
 {
-    bytes.trim_ascii_start()
+    let mut rest = bytes;
+    while let [b' ' | b'\t' | b'\n' | 0x0C | b'\r', after @ ..] = rest {
+        rest = after;
+    }
+    rest
 }
 
 // Whether the bytes begin with the word and then an ASCII capital.
@@ -47,14 +52,19 @@ pub(crate) fn is_all_stars(bytes: &[u8]) -> bool
 pub(crate) fn starts_with_license(bytes: &[u8]) -> bool
     ensures { result ≡ license_ahead bytes.now }
 {
-    // This is asked at each byte of a comment, and hardly any is a `@`.
+    // Both words begin with a `@`, and hardly any comment does.
     bytes.first() == Some(&b'@')
         && (bytes.starts_with(b"@license") || bytes.starts_with(b"@preserve"))
 }
 
 // Whether such a word stands anywhere in the bytes.
+// A call of its own: put into a caller, the loop has more to do at each byte.
+#[inline(never)]
 pub(crate) fn contains_license_or_preserve_comment(bytes: &[u8]) -> bool
     ensures { result ≡ licensed bytes.now }
 {
-    (0..bytes.len()).any(|i| starts_with_license(&bytes[i..]))
+    bytes
+        .iter()
+        .enumerate()
+        .any(|(i, b)| *b == b'@' && starts_with_license(&bytes[i..]))
 }

@@ -1,13 +1,12 @@
 // The lines of a listing, in their order.
 ghost use Rattle.std.specs.Prelude.{◌≡◌};
-ghost use Rattle.table.specs.View.{kept_of};
 ghost use Rattle.listing.specs.Bytes.{Writes};
-ghost use Rattle.listing.specs.Listing.{comment_bytes, share, end_fields, unterminated_line, last_row, listing_of};
+ghost use Rattle.listing.specs.Listing.{comment_bytes, share, end_fields, unterminated_line, last_row, listing};
 
 use crate::out::Out;
 use crate::rows::put_rows;
+use builder::span::Span;
 use comments::comment::Comment;
-use reader::tables::Tables;
 use reader::token_row::TokenRow;
 
 // How many bytes of the text are of comments.
@@ -29,13 +28,13 @@ fn share_of(bytes: u64, text_len: u64) -> u64
         .unwrap_or(0)
 }
 
-fn end_fields(tables: &Tables<'_>, text_len: u64) -> [u64; 4]
-    ensures { result ≡ end_fields (kept_of tables.now.comments) (kept_of tables.now.spaces) text_len }
+fn end_fields(comments: &[Comment], spaces: &[Span], text_len: u64) -> [u64; 4]
+    ensures { result ≡ end_fields comments.now spaces.now text_len }
 {
-    let bytes = comment_bytes(tables.comments.kept());
+    let bytes = comment_bytes(comments);
     [
-        tables.comments.len() as u64,
-        tables.spaces.len() as u64,
+        comments.len() as u64,
+        spaces.len() as u64,
         bytes,
         share_of(bytes, text_len),
     ]
@@ -55,11 +54,17 @@ fn put_unterminated(out: &mut Out<'_>, tokens: &[TokenRow])
 }
 
 // All lines, in their order.
-pub(crate) fn put_all(out: &mut Out<'_>, tables: &Tables<'_>, text_len: u64)
-    ensures { Writes (listing_of tables.now text_len) out.old out.new }
+pub(crate) fn put_all(
+    out: &mut Out<'_>,
+    tokens: &[TokenRow],
+    comments: &[Comment],
+    spaces: &[Span],
+    text_len: u64,
+)
+    ensures { Writes (listing tokens.now comments.now spaces.now text_len) out.old out.new }
 {
-    put_rows(out, tables.comments.kept());
-    put_rows(out, tables.spaces.kept());
-    put_unterminated(out, tables.tokens.kept());
-    out.put_line(b'E', &end_fields(tables, text_len));
+    put_rows(out, comments);
+    put_rows(out, spaces);
+    put_unterminated(out, tokens);
+    out.put_line(b'E', &end_fields(comments, spaces, text_len));
 }

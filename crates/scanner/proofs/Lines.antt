@@ -1,6 +1,6 @@
 -- What a search skips is no part of the end of a line or of a block.
-use Rattle.std.proofs.Common.{◌≡◌, ℕ, suc, ◌+◌, ◌-◌, ◌<◌, ◌≤◌, Bool, true, false, cond, not, ◌&&◌, ◌||◌, eqb, ltb, List, [], ◌∷◌, map, length, get_or, drop, codes, Ok, Err, Result, sym, refl, ap, ◌∙◌, subst, ⊎_elim, add-zero, add_assoc, zero-add, one-add, arith, get_or-drop}
-use Rattle.std.specs.List.{prefix_len, range_with_len, slice_range, starts_with}
+use Rattle.std.proofs.Common.{◌≡◌, ℕ, suc, ◌+◌, ◌-◌, ◌<◌, ◌≤◌, Bool, true, false, cond, not, ◌&&◌, ◌||◌, eqb, ltb, List, [], ◌∷◌, map, length, get_or, drop, Ok, Err, Result, sym, refl, ap, ◌∙◌, subst, ⊎_elim, add-zero, add_assoc, zero-add, one-add, arith, get_or-drop}
+use Rattle.std.specs.List.{prefix_len, range_with_len, slice_range}
 use Rattle.std.proofs.lemmas.List.{drop_more, drop_all, drop-drop, get_or_past, length-drop, take_all}
 use Rattle.std.proofs.Math.Bool.{or-false}
 use Rattle.std.proofs.lemmas.Bool.Decides.{nat_tests}
@@ -120,16 +120,21 @@ block_on xs j m lt e =
 pub rest_from : (xs : List ℕ) (i : ℕ) → slice_range xs i (length xs) ≡ drop i xs
 rest_from xs i = take_all (length xs - i) (drop i xs) (omega (arith, length-drop i xs))
 
--- the text goes on with `*/`, by its bytes
-shut : (xs : List ℕ) → starts_with eqb xs (codes "*/") ≡ closes (get_or xs 0 0) (get_or xs 1 0)
-shut [] = refl
-shut (b ∷ []) = grind (arith, nat_tests)
-shut (b ∷ c ∷ bs) = grind (arith, nat_tests)
-
-pub shut_at : (xs : List ℕ) (i : ℕ) → starts_with eqb (slice_range xs i (length xs)) (codes "*/") ≡ closes (get_or xs i 0) (get_or xs (i + 1) 0)
+-- the two bytes that close, in what is lent of the text from a place on
+pub shut_at : (xs : List ℕ) (i : ℕ) → closes (get_or (slice_range xs i (length xs)) 0 0) (get_or (slice_range xs i (length xs)) 1 0) ≡ closes (get_or xs i 0) (get_or xs (i + 1) 0)
 shut_at xs i =
     let here : get_or (drop i xs) 0 0 ≡ get_or xs i 0 = get_or-drop i xs 0 0 ∙ ap (λ (k : ℕ). get_or xs k 0) (add-zero i) in
-    ap (λ (l : List ℕ). starts_with eqb l (codes "*/")) (rest_from xs i) ∙ shut (drop i xs) ∙ ap (λ (b : ℕ). closes b (get_or (drop i xs) 1 0)) here ∙ ap (closes (get_or xs i 0)) (get_or-drop i xs 1 0)
+    ap (λ (l : List ℕ). closes (get_or l 0 0) (get_or l 1 0)) (rest_from xs i) ∙ ap (λ (b : ℕ). closes b (get_or (drop i xs) 1 0)) here ∙ ap (closes (get_or xs i 0)) (get_or-drop i xs 1 0)
+
+-- other bytes close nothing
+pub others : (b c : ℕ) → (b ≡ 42 → c ≡ 47 → ⊥) → closes b c ≡ false
+others b c h = grind (arith, nat_tests)
+
+-- nor does one byte
+pub short : (xs : List ℕ) → length xs < 2 → closes (get_or xs 0 0) (get_or xs 1 0) ≡ false
+short [] h = refl
+short (b ∷ []) h = grind (arith, nat_tests)
+short (b ∷ c ∷ bs) h = absurd (omega (arith, h))
 
 -- a star closes only with two bytes in hand
 pub close_within : (xs : List ℕ) (j : ℕ) → closes (get_or xs j 0) (get_or xs (j + 1) 0) ≡ true → get_or xs (j + 1) 0 ≡ 47

@@ -20,13 +20,14 @@ pub struct Unterminated {
 }
 
 // How many bytes the line terminator at the front takes, or 0: the text goes on after that many, whether one stands there or not.
+// By the first byte before the length, so that a scan that has seen a `*` asks no more.
 fn terminator_width(rest: &[u8]) -> usize
     ensures value { result ≡ terminator rest.now }
     ensures within { result ≤ length rest.now }
 {
     match rest {
         [b'\n' | b'\r', ..] => 1,
-        [0xE2, 0x80, 0xA8 | 0xA9, ..] => 3,
+        [0xE2, tail @ ..] if matches!(tail, [0x80, 0xA8 | 0xA9, ..]) => 3,
         _ => 0,
     }
 }
@@ -69,10 +70,10 @@ pub fn skip_multi_line_comment(text: &[u8], from: usize) -> Result<Block, Unterm
     let mut multi = false;
     let mut at = search::byte_search(table, text, from);
     while at < text.len() {
-        if text[at..].starts_with(b"*/") {
-            return Ok(Block { end: at + 2, multi });
+        match &text[at..] {
+            [b'*', b'/', ..] => return Ok(Block { end: at + 2, multi }),
+            rest => multi |= terminator_width(rest) > 0,
         }
-        multi |= terminator_at(text, at) > 0;
         at = search::byte_search(table, text, at + 1);
     }
     Err(Unterminated { multi })

@@ -107,7 +107,8 @@ fn block_comment<'a>(source: &Source<'a>) -> Result<Piece<'a>, Unterminated>
     })
 }
 
-// After a `/`: the next byte says which comment, if any.
+// After a `/`: the next byte says which comment, if any. It is inlined, with the two below, so that a walk over pieces keeps each in registers.
+#[inline(always)]
 fn comment_from<'a>(source: &Source<'a>) -> Result<Option<Piece<'a>>, Unterminated>
     ensures { standing_of result ≡ comment_from (text_of source.now) (place_of source.now) (slice_index (text_of source.now) (place_of source.now + 1)) }
 {
@@ -119,6 +120,7 @@ fn comment_from<'a>(source: &Source<'a>) -> Result<Option<Piece<'a>>, Unterminat
 }
 
 // White space, line breaks and irregular spaces, by the character at the place.
+#[inline(always)]
 fn white_from<'a>(source: &Source<'a>, c: char) -> Option<Piece<'a>>
     ensures { standing_of (Ok result) ≡ white_from (text_of source.now) (place_of source.now) c }
 {
@@ -137,6 +139,7 @@ fn white_from<'a>(source: &Source<'a>, c: char) -> Option<Piece<'a>>
 }
 
 // What stands at the source's place: a piece, a block comment without an end, or none of these.
+#[inline(always)]
 pub fn piece_at<'a>(source: &Source<'a>) -> Result<Option<Piece<'a>>, Unterminated>
     ensures value { standing_of result ≡ piece_at (text_of source.now) (place_of source.now) }
     ensures stands { Stands (text_of source.now) (place_of source.now) (standing_of result) }

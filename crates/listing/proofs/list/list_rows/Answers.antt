@@ -2,13 +2,13 @@ use Rattle.std.proofs.Common.{ℕ, ◌<◌, ◌≤◌, min, List, length, ap, �
 use Rattle.reader.specs.Reading.{opening_refusal}
 use Rattle.reader.specs.View.{reader_text}
 use Rattle.listing.specs.Bytes.{laid}
-use Rattle.listing.specs.Listing.{listing_of, most}
+use Rattle.listing.specs.Listing.{listing, most}
 use Rattle.listing.proofs.Fitted.{fitted}
-use Rattle.listing.proofs.list.list.Goals as goal
+use Rattle.listing.proofs.list.list_rows.Goals as goal
 
 pub returns : goal.returns
 returns c =
-    let all : ℕ → List ℕ = λ n. listing_of c.args.tables.now n in
+    let all : ℕ → List ℕ = λ n. listing c.args.tokens.now c.args.comments.now c.args.spaces.now n in
     let long = c.text_len-text_len.ensures in
     let room : length c.args.buffer.now < most = omega arith in
     let fits : c.lay_out.result ≤ length c.args.buffer.now = omega (arith, c.lay_out.ensures.answer, c.lay_out-len.ensures.answer) in
