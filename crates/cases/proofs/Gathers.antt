@@ -24,8 +24,8 @@ module _ (field digits : List ℕ) (n : ℕ) (word : digits ≡ word_of 42 field
   pub unspelt : some_bytes digits ≡ None → field_bytes field ≡ None
   unspelt e = by_digits None e
 
-  pub pushed : (text once all : List ℕ) → after text (some_bytes digits) ≡ Some once → all ≡ take (length text) once ++ repeat n (drop (length text) once) → after text (field_bytes field) ≡ Some all
-  pushed text once all h is = ap (after text) (by_digits (some_bytes digits) refl) ∙ repeated text once all n (some_bytes digits) h is
+  pub spelt : (empty once bytes : List ℕ) → empty ≡ [] → after empty (some_bytes digits) ≡ Some once → bytes ≡ repeat n once → field_bytes field ≡ Some bytes
+  spelt empty once bytes none h e = by_digits (Some once) (alone empty once none (some_bytes digits) h) ∙ ap (λ ys. Some ys) (sym e)
 
 -- the same for a field that is read loosely
 pub uncounted_loosely : (field : List ℕ) → counted loose_times field ≡ None → loose_bytes field ≡ None

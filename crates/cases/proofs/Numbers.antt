@@ -1,11 +1,11 @@
 -- How often a field is repeated, read from its digits.
-use Rattle.std.proofs.Common.{◌≡◌, ℕ, ◌+◌, ◌-◌, ◌*◌, ◌^◌, ◌<◌, ◌≤◌, Bool, true, false, cond, ◌&&◌, leb, ltb, List, [], ◌∷◌, length, get_or, Some, None, Ok, Err, Option, Result, MatchOption, sym, refl, ap, ◌∙◌, arith, rules}
+use Rattle.std.proofs.Common.{◌≡◌, ℕ, ◌^◌, ◌<◌, Bool, true, false, cond, ◌&&◌, leb, ltb, List, [], ◌∷◌, length, get_or, Some, None, Ok, Err, Option, Result, MatchOption, sym, refl, ap, ◌∙◌, arith, rules}
 use Rattle.std.specs.Str.Parse.{ParsesUnsigned, without_leading_plus}
 use Rattle.std.specs.Str.{all_ascii_digits}
 use Rattle.std.specs.Result.{result_ok}
 use Rattle.std.proofs.lemmas.Str.Parse.{IsNumeralModel, numerals_by_fold, without_leading_plus_none}
 use Rattle.std.proofs.lemmas.Bool.{leb-true, ltb-true, lt-ltb}
-use Rattle.cases.specs.Fields.{rest_of, has, decimal_from, times, loose_times, times_of}
+use Rattle.cases.specs.Fields.{decimal_from, times, loose_times}
 
 own : IsNumeralModel (λ ds. all_ascii_digits ds ≡ true) (decimal_from 0)
 own = numerals_by_fold _ (search rules) decimal_from (search rules)
@@ -52,30 +52,3 @@ strict_loose count e =
     let some : ltb 0 (length count) ≡ true = lt-ltb 0 (length count) (long count first) in
     ap (λ (ds : List ℕ). cond (ltb 0 (length ds) && (all_ascii_digits ds && leb (decimal_from 0 ds) 40000)) (Some (decimal_from 0 ds)) None) plain
     ∙ ap (λ (b : Bool). cond (b && (all_ascii_digits count && leb (decimal_from 0 count) 40000)) (Some (decimal_from 0 count)) None) (some ∙ sym e)
-
--- a count that begins above zero is not zero
-grows : (n : ℕ) (ds : List ℕ) → n ≤ decimal_from n ds
-grows n [] = omega arith
-grows n (d ∷ ds) = omega (arith, grows (10 * n + (d - 48)) ds)
-
-above : (ds : List ℕ) → 48 < get_or ds 0 0 → 0 < decimal_from 0 ds
-above [] h = absurd (omega arith)
-above (d ∷ ds) h = omega (arith, grows (10 * 0 + (d - 48)) ds)
-
-tested : (t rest : Bool) (m n : ℕ) → cond (t && rest) (Some m) None ≡ Some n → (t ≡ true) × (m ≡ n)
-tested true true m n e = (refl, cc)
-tested true false m n e = cc
-tested false rest m n e = cc
-
-some_times : (ds : List ℕ) (n : ℕ) → times ds ≡ Some n → 0 < n
-some_times ds n e =
-    let p = tested (ltb 48 (get_or ds 0 0)) (all_ascii_digits ds && leb (decimal_from 0 ds) 40000) (decimal_from 0 ds) n e in
-    omega (arith, above ds (ltb-true 48 (get_or ds 0 0) p.0), p.1)
-
--- so a field stands once at least
-pub once : (field : List ℕ) (n : ℕ) → times_of field ≡ Some n → 0 < n
-once field n e = by_cut (has 42 field) e
-  where
-    by_cut : (cut : Bool) → cond cut (times (rest_of 42 field)) (Some 1) ≡ Some n → 0 < n
-    by_cut true e = some_times (rest_of 42 field) n e
-    by_cut false e = let one : 1 ≡ n = cc in omega arith

@@ -7,7 +7,7 @@ use Rattle.cases.specs.Fields.{multiplied}
 use Rattle.cases.proofs.Pairs.{after}
 
 -- the last of them is as good as the first
-last_first : (k : ℕ) (once : List ℕ) → repeat k once ++ once ≡ once ++ repeat k once
+pub last_first : (k : ℕ) (once : List ℕ) → repeat k once ++ once ≡ once ++ repeat k once
 last_first zero once = sym (append-nil once)
 last_first (suc k) once = append_assoc once (repeat k once) once ∙ ap (λ ys. once ++ ys) (last_first k once)
 

@@ -68,9 +68,22 @@ pub fn field_of(heap: Global, field: &str) -> Result<Vec<u8>, CaseError>
     ensures bytes { IfOk result (λ v. field_bytes field.now ≡ Some v.items) }
     ensures malformed { IsErrOf result CaseError.Malformed → field_bytes field.now ≡ None }
 {
+    let (digits, n) = digits_of(field, repeats).ok_or(CaseError::Malformed)?;
+    let mut once = Vec::new(heap);
+    push_hex(&mut once, digits.as_bytes())?;
     let mut bytes = Vec::new(heap);
-    Strict::push_bytes(&mut bytes, field)?;
+    push_copies(&mut bytes, once.as_slice(), n)?;
     Ok(bytes)
+}
+
+// Adds these bytes `n` times: each copy at once, where `repeat` of the library goes element by element.
+fn push_copies(bytes: &mut Vec<u8>, once: &[u8], n: usize) -> Result<(), AllocError>
+    ensures { OnOk result (bytes.new.items ≡ bytes.old.items ++ repeat n once.now) }
+{
+    for _i in 0..n {
+        bytes.extend_from_slice(once)?;
+    }
+    Ok(())
 }
 
 // Repeats what stands from `from` on, so that it stands `n` times.
@@ -112,10 +125,8 @@ impl FieldRule for Strict {
     }
 
     fn push_bytes(text: &mut Vec<u8>, field: &str) -> Result<(), CaseError> {
-        let (digits, n) = digits_of(field, repeats).ok_or(CaseError::Malformed)?;
-        let from = text.len();
-        push_hex(text, digits.as_bytes())?;
-        Ok(push_times(text, from, n)?)
+        let bytes = field_of(*text.allocator(), field)?;
+        Ok(text.extend_from_slice(bytes.as_slice())?)
     }
 }
 
