@@ -108,7 +108,7 @@ pub trait FieldRule {
         ensures bytes { IfOk result (λ v. spelt field.now ≡ Some v.items) }
         ensures malformed { IsErrOf result CaseError.Malformed → spelt field.now ≡ None };
 
-    // Adds the bytes that a field spells to the end of a text, with no copy of them apart.
+    // Adds the bytes that a field spells to the end of a text.
     fn push_bytes(text: &mut Vec<u8>, field: &str) -> Result<(), CaseError>
         ensures added { OnOk result (option_map (λ bs. text.old.items ++ bs) (spelt field.now) ≡ Some text.new.items) }
         ensures malformed { IsErrOf result CaseError.Malformed → spelt field.now ≡ None };
